@@ -1,0 +1,258 @@
+-- Document 01, "Jumps, traces, looking ahead", "The plain machine" and "Refused calls": the answer of each call and the device after it.
+-- Refusals are judged in the table's order; a refused call leaves the device as given.
+use Prim.Native.Nat.{ℕ, zero, suc, _+_, _/_, _%_, _^_}
+use mathlib.Core.Bool.{Bool, true, false, cond, _&&_, _||_, not}
+use mathlib.Core.List.{List, [], _∷_}
+use lib.Dec.{eqb, leb}
+use lib.ListN.{length}
+use Rattle.machine.specs.declared.Timers.{Timers}
+use Rattle.machine.specs.declared.Timer2.{Timer2}
+use Rattle.machine.specs.declared.Serial.{Serial}
+use Rattle.machine.specs.declared.Interrupts.{Interrupts}
+use Rattle.machine.specs.declared.Device.{Device}
+use Rattle.machine.specs.declared.Answer.{Answer}
+use Rattle.machine.specs.declared.CycleAnswer.{CycleAnswer}
+use Rattle.machine.specs.declared.TakeAnswer.{TakeAnswer}
+use Rattle.machine.specs.declared.ReadAnswer.{ReadAnswer}
+use Rattle.machine.specs.declared.ReadAnswer.the-variants as Read
+use Rattle.machine.specs.declared.OfferAnswer.{OfferAnswer}
+use Rattle.machine.specs.declared.OfferAnswer.the-variants as Offer
+use Rattle.machine.specs.declared.LookAnswer.{LookAnswer}
+use Rattle.machine.specs.declared.LookAnswer.the-variants as Look
+use Rattle.machine.specs.Bits.{bit, field}
+use Rattle.machine.specs.Registers.{PCON, TCON, TMOD, TL0, TL1, TH0, TH1, SCON, SBUF, IE, IP, T2CON, RCAP2L, RCAP2H, TL2, TH2, TF0, TF1, IE0, IE1, RI, TI, TF2, EXF2, lacks, kept}
+use Rattle.machine.specs.Record.{Register, registers, accepted, pinsOk, kindOk, zeros, resetOf}
+use Rattle.machine.specs.Serial.{lineOf, writeSbuf, writeScon}
+use Rattle.machine.specs.Interrupts.{Source, offered, vectorOf, inService, taken, idle, returned}
+use Rattle.machine.specs.Interrupts.Source.{none, source}
+use Rattle.machine.specs.Cycle.{cycleOf, refused9, cycles, anyRefused9}
+
+-- an answer that carries no number
+abbrev pub passed : Device → Answer
+passed d = record { code = 0; device = d }
+
+-- a refused call: its number, and the device as given
+abbrev pub refuse : ℕ → Device → Answer
+refuse n d = record { code = n; device = d }
+
+-- Reset: 2 with another kind, and a record all zero, kind 0
+unfoldable pub resetAnswer : ℕ → Answer
+resetAnswer kind = cond (kindOk kind) (passed (resetOf kind)) (refuse 2 zeros)
+
+-- Read: the register, for SBUF the received byte
+
+-- the value at an address
+unfoldable pub valueIn : List Register → ℕ → ℕ
+valueIn [] a = 0
+valueIn (r ∷ rs) a = cond (eqb (r .address) a) (r .value) (valueIn rs a)
+
+unfoldable pub registerAt : Device → ℕ → ℕ
+registerAt d a = valueIn (registers d) a
+
+unfoldable pub readAnswer : Device → ℕ → ReadAnswer
+readAnswer d a =
+    cond (accepted d) (cond (lacks (d .kind) a) (Read.Refused 3) (Read.Value (registerAt d a))) (Read.Refused 1)
+
+-- Write
+
+-- the device with one register stored; SBUF and SCON do what the serial section says
+unfoldable pub stored : Device → ℕ → ℕ → Device
+stored d a v =
+    let t = d .timers in
+    let u = d .timer2 in
+    let s = d .serial in
+    let i = d .interrupts in
+    record {
+      kind = d .kind;
+      pcon = cond (eqb a PCON) v (d .pcon);
+      timers =
+          record {
+            tcon = cond (eqb a TCON) v (t .tcon);
+            tmod = cond (eqb a TMOD) v (t .tmod);
+            tl0 = cond (eqb a TL0) v (t .tl0);
+            tl1 = cond (eqb a TL1) v (t .tl1);
+            th0 = cond (eqb a TH0) v (t .th0);
+            th1 = cond (eqb a TH1) v (t .th1);
+            due0 = t .due0;
+            due1 = t .due1;
+          };
+      timer2 =
+          record {
+            t2con = cond (eqb a T2CON) v (u .t2con);
+            rcap2l = cond (eqb a RCAP2L) v (u .rcap2l);
+            rcap2h = cond (eqb a RCAP2H) v (u .rcap2h);
+            tl2 = cond (eqb a TL2) v (u .tl2);
+            th2 = cond (eqb a TH2) v (u .th2);
+            due2 = u .due2;
+          };
+      serial = cond (eqb a SCON) (writeScon v s) (cond (eqb a SBUF) (writeSbuf v s) s);
+      interrupts =
+          record {
+            ie = cond (eqb a IE) v (i .ie);
+            ip = cond (eqb a IP) v (i .ip);
+            seen = i .seen;
+            polled = i .polled;
+            low = i .low;
+            high = i .high;
+          };
+      levels = d .levels;
+      cycle = d .cycle;
+    }
+
+-- a write stores the implemented bits
+unfoldable pub writeAnswer : Device → ℕ → ℕ → Answer
+writeAnswer d a v =
+    cond (accepted d)
+    (cond (lacks (d .kind) a) (refuse 3 d) (passed (stored d a (kept (d .kind) a v))))
+    (refuse 1 d)
+
+-- Cycle: steps 1 to 8; it answers the line as the cycle leaves it
+abbrev pub refuseCycle : ℕ → Device → CycleAnswer
+refuseCycle n d = record { code = n; line = 0; device = d }
+
+abbrev pub passedCycle : Device → CycleAnswer
+passedCycle d = record { code = 0; line = lineOf (d .serial); device = d }
+
+unfoldable pub cycleAnswer : Device → ℕ → CycleAnswer
+cycleAnswer d pins =
+    cond (accepted d)
+    (cond (pinsOk pins) (cond (refused9 pins d) (refuseCycle 9 d) (passedCycle (cycleOf pins d))) (refuseCycle 4 d))
+    (refuseCycle 1 d)
+
+-- Jump: n cycles with one pin byte; if one of them is refused, the whole call is, by that number
+
+-- the most cycles of a jump, and the most entries of a trace
+abbrev pub longest : ℕ
+longest = 2 ^ 40
+
+abbrev pub mostEntries : ℕ
+mostEntries = 65536
+
+unfoldable pub jumpAnswer : Device → ℕ → ℕ → Answer
+jumpAnswer d pins n =
+    cond (accepted d)
+    (cond (pinsOk pins)
+    (cond (leb n longest) (cond (anyRefused9 n pins d) (refuse 9 d) (passed (cycles n pins d))) (refuse 5 d))
+    (refuse 4 d))
+    (refuse 1 d)
+
+-- Trace run: an entry has the pin byte on top and the cycles in its low 24 bits
+abbrev pub entryPins : ℕ → ℕ
+entryPins e = field 24 8 e
+
+abbrev pub entryCycles : ℕ → ℕ
+entryCycles e = field 0 24 e
+
+-- the first bad entry's number, 4 before 8 within it, or 0
+unfoldable pub firstBad : List ℕ → ℕ
+firstBad [] = 0
+firstBad (e ∷ es) = cond (pinsOk (entryPins e)) (cond (eqb (entryCycles e) 0) 8 (firstBad es)) 4
+
+-- a trace is checked whole before it runs: 5 goes first, then the first bad entry; or 0
+unfoldable pub traceFault : List ℕ → ℕ
+traceFault es = cond (leb (length es) mostEntries) (firstBad es) 5
+
+-- the cycles of each entry in turn
+unfoldable pub traceCycles : List ℕ → Device → Device
+traceCycles [] d = d
+traceCycles (e ∷ es) d = traceCycles es (cycles (entryCycles e) (entryPins e) d)
+
+-- one of these cycles is refused
+unfoldable pub traceRefused9 : List ℕ → Device → Bool
+traceRefused9 [] d = false
+traceRefused9 (e ∷ es) d =
+    anyRefused9 (entryCycles e) (entryPins e) d || traceRefused9 es (cycles (entryCycles e) (entryPins e) d)
+
+unfoldable pub traceAnswer : Device → List ℕ → Answer
+traceAnswer d es =
+    cond (accepted d)
+    (cond (eqb (traceFault es) 0) (cond (traceRefused9 es d) (refuse 9 d) (passed (traceCycles es d))) (refuse (traceFault es) d))
+    (refuse 1 d)
+
+-- Look ahead
+
+-- the eight flags: TF0, TF1, IE0, IE1, RI, TI, TF2, EXF2
+unfoldable pub flags : Device → List ℕ
+flags d =
+    bit TF0 (d .timers .tcon)
+    ∷ bit TF1 (d .timers .tcon)
+    ∷ bit IE0 (d .timers .tcon)
+    ∷ bit IE1 (d .timers .tcon)
+    ∷ bit RI (d .serial .scon)
+    ∷ bit TI (d .serial .scon)
+    ∷ bit TF2 (d .timer2 .t2con)
+    ∷ bit EXF2 (d .timer2 .t2con)
+    ∷ []
+
+-- one rises in a cycle that finds it 0 and leaves it 1
+unfoldable pub anyRises : List ℕ → List ℕ → Bool
+anyRises [] after = false
+anyRises (b ∷ before) [] = false
+anyRises (b ∷ before) (a ∷ after) = (eqb b 0 && eqb a 1) || anyRises before after
+
+-- a flag rises in the next cycle
+abbrev pub rises : ℕ → Device → Bool
+rises pins d = anyRises (flags d) (flags (cycleOf pins d))
+
+-- the first of the n cycles in which a flag rises, after k cycles that went before; or none
+unfoldable pub firstRise : ℕ → ℕ → ℕ → Device → LookAnswer
+firstRise k zero pins d = Look.Nothing
+firstRise k (suc n) pins d = cond (rises pins d) (Look.At (suc k)) (firstRise (suc k) n pins (cycleOf pins d))
+
+-- a look ahead makes the jump of its n cycles on a copy of the state
+unfoldable pub lookAnswer : Device → ℕ → ℕ → LookAnswer
+lookAnswer d pins n =
+    cond (accepted d)
+    (cond (pinsOk pins)
+    (cond (leb n longest) (cond (anyRefused9 n pins d) (Look.Refused 9) (firstRise 0 n pins d)) (Look.Refused 5))
+    (Look.Refused 4))
+    (Look.Refused 1)
+
+-- Offer: the vector, or none
+unfoldable pub offerOf : Source → OfferAnswer
+offerOf none = Offer.Nothing
+offerOf (source k) = Offer.Vector (vectorOf k)
+
+unfoldable pub offerAnswer : Device → OfferAnswer
+offerAnswer d = cond (accepted d) (offerOf (offered (d .interrupts))) (Offer.Refused 1)
+
+-- Take: the vector; 6 with nothing offered
+
+abbrev pub withTcon : ℕ → Timers → Timers
+withTcon n t =
+    record { tcon = n; tmod = t .tmod; tl0 = t .tl0; tl1 = t .tl1; th0 = t .th0; th1 = t .th1; due0 = t .due0; due1 = t .due1 }
+
+abbrev pub withInterrupts : Timers → Interrupts → Device → Device
+withInterrupts t i d =
+    record {
+      kind = d .kind;
+      pcon = d .pcon;
+      timers = t;
+      timer2 = d .timer2;
+      serial = d .serial;
+      interrupts = i;
+      levels = d .levels;
+      cycle = d .cycle;
+    }
+
+abbrev pub refuseTake : ℕ → Device → TakeAnswer
+refuseTake n d = record { code = n; vector = 0; device = d }
+
+unfoldable pub takeOf : Device → Source → TakeAnswer
+takeOf d none = refuseTake 6 d
+takeOf d (source k) =
+    record {
+      code = 0;
+      vector = vectorOf k;
+      device = withInterrupts (withTcon (taken k (d .timers .tcon)) (d .timers)) (inService k (d .interrupts)) d;
+    }
+
+unfoldable pub takeAnswer : Device → TakeAnswer
+takeAnswer d = cond (accepted d) (takeOf d (offered (d .interrupts))) (refuseTake 1 d)
+
+-- Return: 7 with nothing in service
+unfoldable pub returnAnswer : Device → Answer
+returnAnswer d =
+    cond (accepted d)
+    (cond (idle (d .interrupts)) (refuse 7 d) (passed (withInterrupts (d .timers) (returned (d .interrupts)) d)))
+    (refuse 1 d)

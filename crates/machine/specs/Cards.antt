@@ -1,0 +1,322 @@
+-- Document 01, "Bench cards": the cards marked P, and the last card's rule on TF1, as one table with one proof.
+-- Each row is a list of calls from reset, run through the plain machine. From reset, pins high.
+use Prim.Native.Nat.{ℕ, zero, suc, _+_}
+use mathlib.Core.Path.{_≡_, refl}
+use mathlib.Core.Bool.{Bool, true, false, cond, _&&_}
+use mathlib.Core.List.{List, [], _∷_, _++_, map}
+use lib.Dec.{eqb}
+use Rattle.machine.specs.declared.Device.{Device}
+use Rattle.machine.specs.Registers.{PCON, TCON, TMOD, TL0, TL1, TH0, TH1, SCON, SBUF, IE, IP, T2CON, RCAP2L, RCAP2H, TL2, TH2, table, implementedIn, implemented}
+use Rattle.machine.specs.Record.{registers, hiddenFields, fields, accepted, pinsOf, levelsOf, blank, zeros, resetOf}
+use Rattle.machine.specs.Counting.{count13, count16, reload8, count8, hold}
+use Rattle.machine.specs.Timers.{enabled, clocked, countIn, flagged, counts0, counts1, countsHigh0, pair0, high0, highOverflow0, pair1, timerFlags, timersStep}
+use Rattle.machine.specs.Timer2.{lap, laps, baudRate, countsOf2, heedsT2EX, captures, counted2, baudStep, copied2, captureStep, timer2Step}
+use Rattle.machine.specs.Serial.{halfAfter, ticks1, ticksOf, serialTicks, sendMove, sendTick, sendTicks, send, lineOf, receiveStart, receiveRolled, receiveCounted, votesAdded, bitOf, frameDone, receiveBit, receiveWork, receiveTick, receiveTicks, receiveShift, receive, serialStep, sendRolls, receiveRolls, rollsTwice, writeSbuf, receiveAsked, writeScon}
+use Rattle.machine.specs.Interrupts.{external, either, seenOf, firstOf, offered, inService, taken, returned}
+use Rattle.machine.specs.Cycle.{falls, externals, timersAfter, timer2After, ticksIn, steps as stepsOf, cycleOf, refused9, cycles, anyRefused9}
+use Rattle.machine.specs.Calls.{resetAnswer, valueIn, registerAt, readAnswer, stored, writeAnswer, cycleAnswer, jumpAnswer, firstBad, traceFault, traceCycles, traceRefused9, traceAnswer, flags, anyRises, firstRise, lookAnswer, offerOf, offerAnswer, takeOf, takeAnswer, returnAnswer}
+use Rattle.machine.specs.Lists.{Call, Value, Reply, Ran, says, play, run, machine}
+use Rattle.machine.specs.Lists.Call.{read, write, cycle, jump, look, offer, take, return}
+use Rattle.machine.specs.Lists.Value.{number, none}
+
+-- a row: the card's place in document 01, the kind, the calls, and what has to hold of the run
+pub record Row : Type 0 where
+  pub card : ℕ
+  pub kind : ℕ
+  pub calls : List Call
+  pub test : Ran → Bool
+
+sameValue : Value → Value → Bool
+sameValue (number a) (number b) = eqb a b
+sameValue (number a) none = false
+sameValue none (number b) = false
+sameValue none none = true
+
+sameReply : Reply → Reply → Bool
+sameReply a b = eqb (a .code) (b .code) && sameValue (a .value) (b .value)
+
+sameReplies : List Reply → List Reply → Bool
+sameReplies [] [] = true
+sameReplies [] (b ∷ bs) = false
+sameReplies (a ∷ more) [] = false
+sameReplies (a ∷ more) (b ∷ bs) = sameReply a b && sameReplies more bs
+
+-- how often a reply was given
+times : Reply → List Reply → ℕ
+times r [] = 0
+times r (a ∷ more) = cond (sameReply r a) 1 0 + times r more
+
+-- a call and the reply that the card gives it
+record Asked : Type 0 where
+  pub call : Call
+  pub reply : Reply
+
+abbrev asked : Call → Reply → Asked
+asked c r = record { call = c; reply = r }
+
+abbrev gives : ℕ → Reply
+gives n = says 0 (number n)
+
+-- every pin high, and T0 low
+abbrev high : ℕ
+high = 0x7f
+
+abbrev lowT0 : ℕ
+lowT0 = 0x77
+
+abbrev lowRXD : ℕ
+lowRXD = 0x7e
+
+-- write v at a
+abbrev set : ℕ → ℕ → Asked
+set a v = asked (write a v) (gives 0)
+
+-- n cycles by one jump, pins high
+abbrev go : ℕ → Asked
+go n = asked (jump high n) (gives 0)
+
+-- one cycle, whose line stays high
+abbrev step : ℕ → Asked
+step pins = asked (cycle pins) (gives 1)
+
+-- a register has the value v
+abbrev holds : ℕ → ℕ → Asked
+holds a v = asked (read a) (gives v)
+
+abbrev offers : ℕ → Asked
+offers v = asked offer (gives v)
+
+abbrev offersNone : Asked
+offersNone = asked offer (says 0 none)
+
+-- a row whose replies are all given
+abbrev rowOf : ℕ → ℕ → List Asked → Row
+rowOf card kind steps =
+    record {
+      card = card;
+      kind = kind;
+      calls = map (λ (a : Asked). a .call) steps;
+      test = λ r. sameReplies (r .replies) (map (λ (a : Asked). a .reply) steps);
+    }
+
+-- Timer 0 mode 1 at FFFE, running, IE 82: TF0 rises in cycle 2; none offered after 2, 000B after 3
+card1 : ℕ → Row
+card1 kind =
+    rowOf 1 kind (
+    set TMOD 0x01
+    ∷ set TH0 0xff
+    ∷ set TL0 0xfe
+    ∷ set IE 0x82
+    ∷ set TCON 0x10
+    ∷ asked (look high 1) (says 0 none)
+    ∷ asked (look high 9) (gives 2)
+    ∷ step high
+    ∷ holds TCON 0x10
+    ∷ step high
+    ∷ holds TCON 0x30
+    ∷ offersNone
+    ∷ step high
+    ∷ offers 0x0b
+    ∷ []
+    )
+
+-- mode 0, TH FF, TL FF: next TH 00, TL E0, flag set; for Timer 0 and for Timer 1
+card2 : ℕ → Row
+card2 kind =
+    rowOf 2 kind (
+    set TH0 0xff
+    ∷ set TL0 0xff
+    ∷ set TCON 0x10
+    ∷ step high
+    ∷ holds TH0 0x00
+    ∷ holds TL0 0xe0
+    ∷ holds TCON 0x30
+    ∷ set TH1 0xff
+    ∷ set TL1 0xff
+    ∷ set TCON 0x40
+    ∷ step high
+    ∷ holds TH1 0x00
+    ∷ holds TL1 0xe0
+    ∷ holds TCON 0xc0
+    ∷ []
+    )
+
+-- mode 2, TH1 FD, TL1 FE, jump 101: TL1 FD
+abbrev mode2 : List Asked
+mode2 = set TMOD 0x20 ∷ set TH1 0xfd ∷ set TL1 0xfe ∷ set TCON 0x40 ∷ []
+
+card3 : ℕ → Row
+card3 kind = rowOf 3 kind (mode2 ++ (go 101 ∷ holds TL1 0xfd ∷ []))
+
+-- the same: 34 overflows, each seen in TF1, which is cleared after every cycle
+again : ℕ → List Call
+again zero = []
+again (suc n) = cycle high ∷ read TCON ∷ write TCON 0x40 ∷ again n
+
+card3counted : ℕ → Row
+card3counted kind =
+    record {
+      card = 3;
+      kind = kind;
+      calls = map (λ (a : Asked). a .call) mode2 ++ again 101;
+      test = λ r. eqb (times (gives 0xc0) (r .replies)) 34 && eqb (r .device .timers .tl1) 0xfd;
+    }
+
+-- T0 falls in cycle 5: a counter moves in cycle 6, not 5
+card4 : ℕ → Row
+card4 kind =
+    rowOf 4 kind (
+    set TMOD 0x05
+    ∷ set TCON 0x10
+    ∷ go 4
+    ∷ step lowT0
+    ∷ holds TL0 0
+    ∷ step lowT0
+    ∷ holds TL0 1
+    ∷ step high
+    ∷ holds TL0 1
+    ∷ []
+    )
+
+-- RCLK, RCAP2 and count FFFD: 2 overflows a cycle, count FFFD after it. The first tick finds a start bit, each other adds 1
+-- to the receive counter, so that one cycle leaves 1 and four leave 7
+baud2 : List Asked
+baud2 =
+    set RCAP2L 0xfd
+    ∷ set RCAP2H 0xff
+    ∷ set TL2 0xfd
+    ∷ set TH2 0xff
+    ∷ set SCON 0x50
+    ∷ set T2CON 0x24
+    ∷ []
+
+abbrev counterIs : ℕ → List Asked → Row
+counterIs n steps =
+    record {
+      card = 5;
+      kind = 52;
+      calls = map (λ (a : Asked). a .call) steps;
+      test = λ r. sameReplies (r .replies) (map (λ (a : Asked). a .reply) steps) && eqb (r .device .serial .receive .counter) n;
+    }
+
+card5 : Row
+card5 = counterIs 1 (baud2 ++ (step lowRXD ∷ holds TL2 0xfd ∷ holds TH2 0xff ∷ holds T2CON 0x24 ∷ []))
+
+card5more : Row
+card5more =
+    counterIs 7
+    (baud2 ++ (step lowRXD ∷ step lowRXD ∷ step lowRXD ∷ step lowRXD ∷ holds TL2 0xfd ∷ holds TH2 0xff ∷ []))
+
+-- serial mode 1, Timer 1 mode 2, TH1 and TL1 FF, SMOD as given, SBUF written
+mode1send : ℕ → List Asked
+mode1send pcon =
+    set TMOD 0x20
+    ∷ set TH1 0xff
+    ∷ set TL1 0xff
+    ∷ set PCON pcon
+    ∷ set SCON 0x40
+    ∷ set TCON 0x40
+    ∷ set SBUF 0xa5
+    ∷ []
+
+-- SMOD 1: TI in cycle 160
+card6 : ℕ → Row
+card6 kind = rowOf 6 kind (mode1send 0x80 ++ (go 159 ∷ holds SCON 0x40 ∷ go 1 ∷ holds SCON 0x42 ∷ []))
+
+-- SMOD 0: 320, by two jumps with half set between them
+card6half : ℕ → Row
+card6half kind = rowOf 6 kind (mode1send 0x00 ++ (go 159 ∷ go 160 ∷ holds SCON 0x40 ∷ go 1 ∷ holds SCON 0x42 ∷ []))
+
+-- the same, SMOD 1, after a jump of 1: look ahead 159 gives 159, 158 gives none
+card7 : ℕ → Row
+card7 kind =
+    rowOf 7 kind
+    (mode1send 0x80 ++ (go 1 ∷ asked (look high 159) (gives 159) ∷ asked (look high 158) (says 0 none) ∷ []))
+
+-- serial mode 2 send: TI in cycle 30 with SMOD 1, 59 with 0
+card8 : ℕ → ℕ → ℕ → Row
+card8 pcon n kind =
+    rowOf 8 kind (
+    set PCON pcon
+    ∷ set SCON 0x80
+    ∷ set SBUF 0x5a
+    ∷ go n
+    ∷ holds SCON 0x80
+    ∷ go 1
+    ∷ holds SCON 0x82
+    ∷ []
+    )
+
+-- serial mode 0: 10
+card8shift : ℕ → Row
+card8shift kind = rowOf 8 kind (set SBUF 0x5a ∷ go 9 ∷ holds SCON 0x00 ∷ go 1 ∷ holds SCON 0x02 ∷ [])
+
+-- IE 92, IP 10, TF0 and TI polled: 0023; after take none; after return 000B
+card9 : ℕ → Row
+card9 kind =
+    rowOf 9 kind (
+    set IE 0x92
+    ∷ set IP 0x10
+    ∷ set TCON 0x20
+    ∷ set SCON 0x02
+    ∷ go 2
+    ∷ offers 0x23
+    ∷ asked take (gives 0x23)
+    ∷ offersNone
+    ∷ asked return (gives 0)
+    ∷ offers 0x0b
+    ∷ []
+    )
+
+-- setting TF1 from Timer 1 while Timer 0 is in mode 3 is wrong; it counts all the same, TR1 0 or not
+card10 : ℕ → ℕ → ℕ → Row
+card10 tmod tl kind =
+    rowOf 10 kind (
+    set TMOD tmod
+    ∷ set TH1 0xff
+    ∷ set TL1 0xff
+    ∷ step high
+    ∷ holds TCON 0x00
+    ∷ holds TL1 tl
+    ∷ []
+    )
+
+-- on both kinds
+both : (ℕ → Row) → List Row
+both card = card 51 ∷ card 52 ∷ []
+
+joined : List (List Row) → List Row
+joined [] = []
+joined (rs ∷ more) = rs ++ joined more
+
+cards : List Row
+cards =
+    joined (
+    both card1
+    ∷ both card2
+    ∷ both card3
+    ∷ both card3counted
+    ∷ both card4
+    ∷ (card5 ∷ card5more ∷ [])
+    ∷ both card6
+    ∷ both card6half
+    ∷ both card7
+    ∷ both (card8 0x80 29)
+    ∷ both (card8 0x00 58)
+    ∷ both card8shift
+    ∷ both card9
+    ∷ both (card10 0x03 0xe0)
+    ∷ both (card10 0x13 0x00)
+    ∷ both (card10 0x23 0xff)
+    ∷ []
+    )
+
+-- the cards of the rows that fail
+failing : List Row → List ℕ
+failing [] = []
+failing (r ∷ rs) = cond (r .test (machine (r .kind) (r .calls))) (failing rs) (r .card ∷ failing rs)
+
+-- no row fails
+cards-hold : failing cards ≡ []
+unfolding sameValue sameReply sameReplies times card1 card2 card3 card3counted again card4 baud2 card5 card5more mode1send card6 card6half card7 card8 card8shift card9 card10 both joined cards failing table implementedIn implemented registers hiddenFields fields accepted pinsOf levelsOf zeros resetOf count13 count16 reload8 count8 hold enabled clocked countIn flagged counts0 counts1 countsHigh0 pair0 high0 highOverflow0 pair1 timerFlags timersStep lap laps baudRate countsOf2 heedsT2EX captures counted2 baudStep copied2 captureStep timer2Step halfAfter ticks1 ticksOf serialTicks sendMove sendTick sendTicks send lineOf receiveStart receiveRolled receiveCounted votesAdded bitOf frameDone receiveBit receiveWork receiveTick receiveTicks receiveShift receive serialStep sendRolls receiveRolls rollsTwice writeSbuf receiveAsked writeScon external either seenOf firstOf offered inService taken returned falls externals timersAfter timer2After ticksIn stepsOf cycleOf refused9 cycles anyRefused9 resetAnswer valueIn registerAt readAnswer stored writeAnswer cycleAnswer jumpAnswer firstBad traceFault traceCycles traceRefused9 traceAnswer flags anyRises firstRise lookAnswer offerOf offerAnswer takeOf takeAnswer returnAnswer play run machine
+cards-hold = refl

@@ -1,0 +1,12 @@
+pub mod Bits
+pub mod Registers
+pub mod Record
+pub mod Counting
+pub mod Timers
+pub mod Timer2
+pub mod Serial
+pub mod Interrupts
+pub mod Cycle
+pub mod Calls
+pub mod Lists
+pub mod Cards

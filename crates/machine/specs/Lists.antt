@@ -1,0 +1,106 @@
+-- Document 01, "The plain machine": a list of calls, the answers to it and the state at its end.
+use Prim.Native.Nat.{ℕ}
+use mathlib.Core.List.{List, [], _∷_}
+use Rattle.machine.specs.declared.Device.{Device}
+use Rattle.machine.specs.declared.Answer.{Answer}
+use Rattle.machine.specs.declared.CycleAnswer.{CycleAnswer}
+use Rattle.machine.specs.declared.TakeAnswer.{TakeAnswer}
+use Rattle.machine.specs.declared.ReadAnswer.{ReadAnswer}
+use Rattle.machine.specs.declared.ReadAnswer.the-variants as Read
+use Rattle.machine.specs.declared.OfferAnswer.{OfferAnswer}
+use Rattle.machine.specs.declared.OfferAnswer.the-variants as Offer
+use Rattle.machine.specs.declared.LookAnswer.{LookAnswer}
+use Rattle.machine.specs.declared.LookAnswer.the-variants as Look
+use Rattle.machine.specs.Record.{resetOf}
+use Rattle.machine.specs.Calls.{resetAnswer, readAnswer, writeAnswer, cycleAnswer, jumpAnswer, traceAnswer, lookAnswer, offerAnswer, takeAnswer, returnAnswer}
+
+-- a call with its arguments other than the device
+pub data Call : Type 0 where
+  reset : ℕ → Call
+  read : ℕ → Call
+  write : ℕ → ℕ → Call
+  cycle : ℕ → Call
+  jump : ℕ → ℕ → Call
+  trace : List ℕ → Call
+  look : ℕ → ℕ → Call
+  offer : Call
+  take : Call
+  return : Call
+
+-- the number that an answer carries beside its code; none is told apart from every number
+pub data Value : Type 0 where
+  number : ℕ → Value
+  none : Value
+
+-- an answer as document 01 gives it: 0 or the refusal's number, and the value; any other number in a refused answer is 0
+pub record Reply : Type 0 where
+  pub code : ℕ
+  pub value : Value
+
+abbrev pub says : ℕ → Value → Reply
+says c v = record { code = c; value = v }
+
+-- each answer's number and value
+abbrev pub replyOf : Answer → Reply
+replyOf a = says (a .code) (number 0)
+
+abbrev pub replyOfCycle : CycleAnswer → Reply
+replyOfCycle a = says (a .code) (number (a .line))
+
+abbrev pub replyOfTake : TakeAnswer → Reply
+replyOfTake a = says (a .code) (number (a .vector))
+
+abbrev pub replyOfRead : ReadAnswer → Reply
+replyOfRead (Read.Refused k) = says k (number 0)
+replyOfRead (Read.Value v) = says 0 (number v)
+
+abbrev pub replyOfOffer : OfferAnswer → Reply
+replyOfOffer (Offer.Refused k) = says k (number 0)
+replyOfOffer (Offer.Vector v) = says 0 (number v)
+replyOfOffer Offer.Nothing = says 0 none
+
+abbrev pub replyOfLook : LookAnswer → Reply
+replyOfLook (Look.Refused k) = says k (number 0)
+replyOfLook (Look.At k) = says 0 (number k)
+replyOfLook Look.Nothing = says 0 none
+
+-- a call's reply and the state after it
+pub record Played : Type 0 where
+  pub reply : Reply
+  pub device : Device
+
+abbrev pub played : Reply → Device → Played
+played r d = record { reply = r; device = d }
+
+-- one call; reads, offers and looks alter nothing
+unfoldable pub play : Call → Device → Played
+play (reset kind) d = played (replyOf (resetAnswer kind)) (resetAnswer kind .device)
+play (read a) d = played (replyOfRead (readAnswer d a)) d
+play (write a v) d = played (replyOf (writeAnswer d a v)) (writeAnswer d a v .device)
+play (cycle pins) d = played (replyOfCycle (cycleAnswer d pins)) (cycleAnswer d pins .device)
+play (jump pins n) d = played (replyOf (jumpAnswer d pins n)) (jumpAnswer d pins n .device)
+play (trace es) d = played (replyOf (traceAnswer d es)) (traceAnswer d es .device)
+play (look pins n) d = played (replyOfLook (lookAnswer d pins n)) d
+play offer d = played (replyOfOffer (offerAnswer d)) d
+play take d = played (replyOfTake (takeAnswer d)) (takeAnswer d .device)
+play return d = played (replyOf (returnAnswer d)) (returnAnswer d .device)
+
+-- all answers to a list of calls, and the state at its end
+pub record Ran : Type 0 where
+  pub replies : List Reply
+  pub device : Device
+
+abbrev pub ran : List Reply → Device → Ran
+ran rs d = record { replies = rs; device = d }
+
+-- the machine on a list of calls, from any state: each call gets the state that the one before left
+unfoldable pub run : List Call → Device → Ran
+run [] d = ran [] d
+run (c ∷ cs) d =
+    let p = play c d in
+    let r = run cs (p .device) in
+    ran (p .reply ∷ r .replies) (r .device)
+
+-- the plain machine: it starts with what reset gives the kind, and its only inputs are the kind and the list
+unfoldable pub machine : ℕ → List Call → Ran
+machine kind cs = run cs (resetAnswer kind .device)

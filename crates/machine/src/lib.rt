@@ -1,0 +1,156 @@
+// The types of the plain machine: the device record and its parts, what a step hands on, and the answers of the calls.
+// What the chip does is said in specs/, a file for each section of document 01.
+
+// Timers 0 and 1: registers and due marks.
+#[repr(C)]
+pub struct Timers {
+    pub tcon: u8,
+    pub tmod: u8,
+    pub tl0: u8,
+    pub tl1: u8,
+    pub th0: u8,
+    pub th1: u8,
+    pub due0: u8,
+    pub due1: u8,
+}
+
+// Timer 2: registers and due mark.
+#[repr(C)]
+pub struct Timer2 {
+    pub t2con: u8,
+    pub rcap2l: u8,
+    pub rcap2h: u8,
+    pub tl2: u8,
+    pub th2: u8,
+    pub due2: u8,
+}
+
+// Send position, send value and send counter.
+#[repr(C)]
+pub struct Sender {
+    pub position: u8,
+    pub value: u16,
+    pub counter: u8,
+}
+
+// Receive position, receive value, receive counter, votes and last line sample.
+#[repr(C)]
+pub struct Receiver {
+    pub position: u8,
+    pub value: u16,
+    pub counter: u8,
+    pub votes: u8,
+    pub sample: u8,
+}
+
+// The serial port. SBUF's value is the received byte.
+#[repr(C)]
+pub struct Serial {
+    pub scon: u8,
+    pub send: Sender,
+    pub receive: Receiver,
+    pub half: u8,
+    pub received: u8,
+}
+
+// The interrupt controller: registers, seen, polled, and the levels in service.
+#[repr(C)]
+pub struct Interrupts {
+    pub ie: u8,
+    pub ip: u8,
+    pub seen: u8,
+    pub polled: u8,
+    pub low: u8,
+    pub high: u8,
+}
+
+// The device record. The saved levels are those of RXD, INT0, INT1, T0, T1, T2, T2EX.
+#[repr(C)]
+pub struct Device {
+    pub kind: u8,
+    pub pcon: u8,
+    pub timers: Timers,
+    pub timer2: Timer2,
+    pub serial: Serial,
+    pub interrupts: Interrupts,
+    pub levels: [u8; 7],
+    pub cycle: u64,
+}
+
+// A timer's register pair after a count, and 1 where it overflowed.
+pub struct Count {
+    pub tl: u8,
+    pub th: u8,
+    pub overflow: u8,
+}
+
+// Step 2: Timers 0 and 1, and the overflows of Timer 0 (TL0 in mode 3), of TH0 in mode 3 and of Timer 1.
+pub struct TimersCounted {
+    pub timers: Timers,
+    pub tl0: u8,
+    pub th0: u8,
+    pub timer1: u8,
+}
+
+// A 16-bit count that reloads, and its overflows so far.
+pub struct Laps {
+    pub count: u16,
+    pub overflows: u8,
+}
+
+// Step 3: Timer 2, its overflows, and 1 where one of them set TF2.
+pub struct Timer2Counted {
+    pub timer2: Timer2,
+    pub overflows: u8,
+    pub tf2: u8,
+}
+
+// Step 4: the ticks of the sender and of the receiver, and half after them.
+pub struct Ticks {
+    pub send: u8,
+    pub receive: u8,
+    pub half: u8,
+}
+
+// The answer of reset, write, jump, trace run and return: 0 or the refusal's number, and the device.
+#[repr(C)]
+pub struct Answer {
+    pub code: u8,
+    pub device: Device,
+}
+
+// The answer of a cycle: 0 and the output line, or the refusal's number and 0; and the device.
+#[repr(C)]
+pub struct CycleAnswer {
+    pub code: u8,
+    pub line: u8,
+    pub device: Device,
+}
+
+// The answer of a take: 0 and the vector, or the refusal's number and 0; and the device.
+#[repr(C)]
+pub struct TakeAnswer {
+    pub code: u8,
+    pub vector: u8,
+    pub device: Device,
+}
+
+// The answer of a read.
+pub enum ReadAnswer {
+    Refused(u8),
+    Value(u8),
+}
+
+// The answer of an offer.
+pub enum OfferAnswer {
+    Refused(u8),
+    Vector(u8),
+    Nothing,
+}
+
+// The answer of a look ahead.
+pub enum LookAnswer {
+    Refused(u8),
+    At(u64),
+    Nothing,
+}

@@ -1,0 +1,43 @@
+#!/bin/sh
+# The layout test refuses what it must: on a copy of the repository, a deleted line of crates.txt, a stray file, an undeclared
+# module, an axiom and a foreign function each make it fail.
+here=$(cd "$(dirname "$0")/.." && pwd) || exit 1
+copy=$(mktemp -d) || exit 1
+trap 'rm -rf "$copy"' EXIT
+
+good=0
+bad=0
+fresh() {
+    rm -rf "$copy/repo"
+    mkdir "$copy/repo"
+    cp -r "$here/crates.txt" "$here/crates" "$copy/repo/"
+}
+refused() {
+    if sh "$here/tests/layout.sh" "$copy/repo" >"$copy/log"; then
+        bad=$((bad + 1))
+        printf 'the layout test passes %s\n' "$1"
+    else
+        good=$((good + 1))
+        printf '%s: %s\n' "$1" "$(grep -m 1 '^layout:' "$copy/log")"
+    fi
+}
+
+fresh
+if sh "$here/tests/layout.sh" "$copy/repo" >"$copy/log"; then good=$((good + 1)); else bad=$((bad + 1)); cat "$copy/log"; fi
+sed '/^laws:/d' "$here/crates.txt" >"$copy/repo/crates.txt"
+refused 'a deleted line of crates.txt'
+fresh
+echo 'fn stray() {}' >"$copy/repo/stray.rt"
+refused 'a stray file outside the crates'
+fresh
+echo '-- nothing' >"$copy/repo/crates/machine/specs/Stray.antt"
+refused 'a module that is not declared'
+fresh
+printf '\naxiom wish : Type 0\n' >>"$copy/repo/crates/machine/specs/Bits.antt"
+refused 'an axiom'
+fresh
+printf '\nextern "C" {\n    fn getpid() -> i32;\n}\n' >>"$copy/repo/crates/laws/src/lib.rt"
+refused 'a foreign function'
+
+printf '%s passed, %s failed\n' "$good" "$bad"
+[ "$bad" = 0 ]
