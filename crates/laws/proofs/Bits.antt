@@ -1,9 +1,10 @@
--- Laws of single bits and fields, for any place: the code's masks and shifts are the definitions' bits.
+-- Laws of single bits and fields, for any place: the code's masks and shifts are the definitions' bits, and what setting, clearing and
+-- putting a bit leaves; by the kit's laws of masks, and by taking a number apart at the bit.
 use mathlib.Core.Path.{_≡_, refl, sym, ap, ap₂, _∙_, subst}
 use mathlib.Core.Bool.{Bool, true, false}
 use mathlib.Core.Logic.{_≢_}
 use Prim.Native.Nat.{ℕ, zero, suc, _+_, _-_, _*_, _/_, _%_, _^_, _<_, _≤_, zero-le, min}
-use native.Mathlib.Nat.{pow-suc, mod-lt, zero-lt-suc, mod-eq-of-lt, one-mul, div-one, div-eq-of-lt, le-trans, div-add-mod', div-div-eq-div-mul, div-lt-iff-lt-mul, mod-mod, suc-mul, zero-mul}
+use native.Mathlib.Nat.{pow-suc, mod-lt, zero-lt-suc, mod-eq-of-lt, one-mul, div-one, div-eq-of-lt, le-trans, div-add-mod', div-lt-iff-lt-mul, mod-mod, suc-mul, zero-mul}
 use native.Mathlib.Numerals.{one-add}
 use native.Mathlib.Omega.{arith}
 use lib.Dec.{ltb}
