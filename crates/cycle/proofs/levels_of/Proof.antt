@@ -1,0 +1,14 @@
+use Rattle.laws.proofs.Bits.{bits}
+use Rattle.machine.specs.Record.{levelsOf}
+use Rattle.cycle.proofs.levels_of.Statement.{statement}
+use Rattle.cycle.proofs.levels_of.Tie as tie
+use Rattle.cycle.proofs.levels_of.Reads as reads
+use Rattle.cycle.proofs.levels_of.Lts as lts
+
+-- src/lib.rt:19:1
+returns : tie.Need-returns
+unfolding levelsOf
+returns c = simp bits
+
+pub levels-of-spec : {M : Type 1} → statement M
+levels-of-spec = tie.close (tie.spec returns)

@@ -1,0 +1,24 @@
+use mathlib.Core.Path.{_∙_}
+use Rattle.laws.proofs.Bits.{or-bit}
+use Rattle.machine.specs.Record.{pinsOf}
+use Rattle.machine.specs.Bits.{setBit}
+use borrow.Author.Needs.{needs}
+use Rattle.cycle.proofs.pins_of.Statement.{statement}
+use Rattle.cycle.proofs.pins_of.Tie as tie
+use Rattle.cycle.proofs.pins_of.Reads as reads
+use Rattle.cycle.proofs.pins_of.Lts as lts
+use Rattle.laws.proofs.picked.Reads as picked-reads
+
+-- src/lib.rt:15:5
+picked-requires : tie.Need-picked-requires
+picked-requires c κs = search needs
+
+-- src/lib.rt:12:1
+returns : tie.Need-returns
+unfolding pinsOf
+returns c =
+    let p = c .before .args .pins in
+    c .picked .ensures ∙ simp (or-bit p 5, or-bit (setBit 5 p) 6)
+
+pub pins-of-spec : {M : Type 1} → statement M
+pins-of-spec = tie.close (tie.spec picked-requires returns)

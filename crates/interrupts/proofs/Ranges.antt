@@ -1,0 +1,118 @@
+-- Each step of the interrupt controller keeps its fields in their ranges, by the cases of its definition.
+use mathlib.Core.Path.{_≡_, refl, subst}
+use mathlib.Core.Bool.{Bool, true, false, cond}
+use Prim.Native.Nat.{ℕ, _+_, _*_, _<_, _≤_}
+use native.Mathlib.Nat.{le-trans, sub-le}
+use native.Mathlib.Omega.{arith}
+use lib.Dec.{eqb, lit<, lit≤}
+use Rattle.laws.proofs.Bits.{set-lt, clear-lt}
+use Rattle.machine.specs.Bits.{bit, setBit, clearBit}
+use Rattle.machine.specs.Registers.{TF0, TF1, IE0, IE1, IT0, IT1, RI, TI, TF2, EXF2}
+use Rattle.machine.specs.declared.Interrupts.{Interrupts}
+use Rattle.machine.specs.Interrupts.{Source, none, source, external, either, seenOf, firstOf, sources, asks, asksMarked, orElse, offered, inService, taken, returned}
+use Rattle.interrupts.specs.Number.{numberOf}
+use Rattle.interrupts.proofs.Laws.{either-few}
+
+-- the ranges of the hidden fields
+pub record Ranges (i : Interrupts) : Type 0 where
+  pub seen : i .seen ≤ 63
+  pub polled : i .polled ≤ 63
+  pub low : i .low ≤ 1
+  pub high : i .high ≤ 1
+
+-- a choice has what both have
+chosen : {A : Type 0} (P : A → Type 0) (t : Bool) (x y : A) → P x → P y → P (cond t x y)
+chosen P true x y h l = h
+chosen P false x y h l = l
+
+abbrev Byte : ℕ → Type 0
+Byte n = n < 256
+
+abbrev Mark : ℕ → Type 0
+Mark n = n ≤ 1
+
+-- TCON stays a byte at a pin and at a take
+pub external-byte : (it ie fell level tcon : ℕ) → ie < 8 → tcon < 256 → external it ie fell level tcon < 256
+unfolding external
+external-byte it ie fell level tcon h l =
+    let set : setBit ie tcon < 256 = set-lt 8 ie tcon h l in
+    chosen Byte (eqb (bit it tcon) 1) _ _ (chosen Byte (eqb fell 1) _ _ set l)
+    (chosen Byte (eqb level 0) _ _ set (clear-lt 8 ie tcon l))
+
+pub taken-byte : (k tcon : ℕ) → tcon < 256 → taken k tcon < 256
+unfolding taken
+taken-byte k tcon l =
+    chosen Byte (eqb k 0) _ _ (chosen Byte (eqb (bit IT0 tcon) 1) _ _ (clear-lt 8 IE0 tcon l) l)
+    (chosen Byte (eqb k 1) _ _ (clear-lt 8 TF0 tcon l)
+    (chosen Byte (eqb k 2) _ _ (chosen Byte (eqb (bit IT1 tcon) 1) _ _ (clear-lt 8 IE1 tcon l) l)
+    (chosen Byte (eqb k 3) _ _ (clear-lt 8 TF1 tcon l) l)))
+
+-- seen has six bits
+pub seen-most : (tcon scon t2con : ℕ) → seenOf tcon scon t2con ≤ 63
+unfolding seenOf
+seen-most tcon scon t2con =
+    omega (arith, either-few (bit RI scon) (bit TI scon), either-few (bit TF2 t2con) (bit EXF2 t2con))
+
+-- a take and a return keep the ranges
+pub in-service-ranges : (k : ℕ) (i : Interrupts) → Ranges i → Ranges (inService k i)
+unfolding inService
+in-service-ranges k i r =
+    record {
+      seen = le-trans (sub-le (i .seen) _) (r .seen);
+      polled = le-trans (sub-le (i .polled) _) (r .polled);
+      low = chosen Mark (eqb (bit k (i .ip)) 1) _ _ (r .low) (lit≤ tt);
+      high = chosen Mark (eqb (bit k (i .ip)) 1) _ _ (lit≤ tt) (r .high);
+    }
+
+pub returned-ranges : (i : Interrupts) → Ranges i → Ranges (returned i)
+unfolding returned
+returned-ranges i r =
+    record {
+      seen = r .seen;
+      polled = r .polled;
+      low = chosen Mark (eqb (i .high) 1) _ _ (r .low) (lit≤ tt);
+      high = lit≤ tt;
+    }
+
+-- what is offered is one of the six sources
+One : Source → Type 0
+One none = Unit
+One (source k) = k < 6
+
+first-one : (f : ℕ → Bool) → One (firstOf f sources)
+unfolding firstOf One
+first-one f =
+    chosen One (f 0) _ _ (lit< tt)
+    (chosen One (f 1) _ _ (lit< tt)
+    (chosen One (f 2) _ _ (lit< tt)
+    (chosen One (f 3) _ _ (lit< tt) (chosen One (f 4) _ _ (lit< tt) (chosen One (f 5) _ _ (lit< tt) tt)))))
+
+or-one : (a b : Source) → One a → One b → One (orElse a b)
+or-one none b p q = q
+or-one (source k) b p q = p
+
+offered-one : (i : Interrupts) → One (offered i)
+unfolding offered One
+offered-one i =
+    chosen One (eqb (i .high) 1) none _ tt
+    (or-one (firstOf (asksMarked i) sources) _ (first-one (asksMarked i)) (chosen One (eqb (i .low) 1) none _ tt (first-one (asks i))))
+
+pub offered-source : (i : Interrupts) (k : ℕ) → offered i ≡ source k → k < 6
+unfolding One
+offered-source i k e = subst One e (offered-one i)
+
+-- read from its number: below 6 that source, 6 none
+number-source : (s : Source) → numberOf s < 6 → s ≡ source (numberOf s)
+number-source none h = absurd (omega arith)
+number-source (source k) h = refl
+
+number-none : (s : Source) → One s → 6 ≤ numberOf s → s ≡ none
+unfolding One
+number-none none o h = refl
+number-none (source k) o h = absurd (omega arith)
+
+pub offered-below : (i : Interrupts) → numberOf (offered i) < 6 → offered i ≡ source (numberOf (offered i))
+offered-below i = number-source (offered i)
+
+pub offered-none : (i : Interrupts) → 6 ≤ numberOf (offered i) → offered i ≡ none
+offered-none i = number-none (offered i) (offered-one i)

@@ -1,0 +1,43 @@
+-- `offered` is the number of the source offered: its masks are the sources that ask, by the law on each bit.
+use mathlib.Core.Path.{ap}
+use Rattle.machine.specs.Registers.{EA}
+use Rattle.laws.proofs.Bits.{and-one}
+use Rattle.interrupts.specs.Number.{numberOf}
+use Rattle.interrupts.proofs.Laws.{offered-by-masks}
+use borrow.Author.Needs.{needs}
+use Rattle.interrupts.proofs.offered.Statement.{statement}
+use Rattle.interrupts.proofs.offered.Tie as tie
+
+picked-requires : tie.Need-picked-requires
+picked-requires c κs = search needs
+
+picked-requires-2 : tie.Need-picked-requires-2
+picked-requires-2 c κs = search needs
+
+picked-requires-3 : tie.Need-picked-requires-3
+picked-requires-3 c κs = search needs
+
+picked-requires-4 : tie.Need-picked-requires-4
+picked-requires-4 c κs = search needs
+
+first-of-requires : tie.Need-first-of-requires
+first-of-requires c κs = search needs
+
+returns : tie.Need-returns
+returns c =
+    let two = c .before .before .before .before in
+    let one = two .before .before .before .before in
+    let i = one .before .before .before .args .i in
+    simp (c .first-of .ensures, c .before .picked4 .ensures, c .before .before .before .picked3 .ensures, two .picked2 .ensures, one .picked .ensures, and-one (i .ie) EA)
+    (ap numberOf (offered-by-masks i))
+
+pub offered-spec : {M : Type 1} → statement M
+offered-spec =
+    tie.close
+    (tie.spec
+    picked-requires
+    picked-requires-2
+    picked-requires-3
+    picked-requires-4
+    first-of-requires
+    returns)

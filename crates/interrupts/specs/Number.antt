@@ -1,0 +1,13 @@
+-- The number that the code gives for what is offered: a source's bit in polled, and 6 for none.
+use Prim.Native.Nat.{ℕ}
+use lib.Dec.{eqb}
+use Rattle.machine.specs.Bits.{bit}
+use Rattle.machine.specs.Interrupts.{Source, none, source, firstOf, sources}
+
+abbrev pub numberOf : Source → ℕ
+numberOf none = 6
+numberOf (source k) = k
+
+-- the first source whose bit is set in x
+unfoldable pub firstSet : ℕ → Source
+firstSet x = firstOf (λ (k : ℕ). eqb (bit k x) 1) sources

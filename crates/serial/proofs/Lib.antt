@@ -1,0 +1,6 @@
+pub mod Cases
+pub mod Sending
+pub mod Receiving
+pub mod Ranges
+pub mod Quiet
+pub mod Rollover

@@ -1,0 +1,122 @@
+-- A resting serial port: in mode 0, and without ticks, only half changes; ticks with no start bit waiting move the send counter and
+-- sample the line. By induction on the ticks.
+use mathlib.Core.Path.{_≡_, refl, ap, sym, _∙_}
+use mathlib.Core.Bool.{Bool, true, false, cond, _&&_, _||_, not}
+use Prim.Native.Nat.{ℕ, zero, suc, _+_, _%_, _≤_}
+use native.Mathlib.Omega.{arith}
+use lib.Dec.{eqb, eqb·suc-zero}
+use borrow.Author.Tests.{eq-eqb, ne-eqb, eqb-true, eqb-false}
+use Rattle.machine.specs.declared.Serial.{Serial}
+use Rattle.machine.specs.declared.Ticks.{Ticks}
+use Rattle.machine.specs.Bits.{bit}
+use Rattle.machine.specs.Record.{serialMode}
+use Rattle.machine.specs.Registers.{REN}
+use Rattle.machine.specs.Serial as S
+use Rattle.machine.specs.Serial.{withReceive, withHalf, withSample, rollsOver, counterNext}
+use Rattle.serial.specs.Rest.{startWaits, idles}
+use Rattle.serial.proofs.Cases.{cond-same, and-left, and-right, by-test}
+use Rattle.serial.proofs.Sending.{sendCounter}
+
+-- the last line sample at l
+abbrev pub sampled : ℕ → Serial → Serial
+sampled l s = withReceive (withSample l (s .receive)) s
+
+-- Sending
+
+rest-move : (s : Serial) → s .send .position ≡ 0 → S.sendMove s ≡ s
+unfolding S.sendMove
+rest-move s p = simp (eq-eqb (s .send .position) 0 p)
+
+rest-send-tick : (s : Serial) → s .send .position ≡ 0 → S.sendTick s ≡ sendCounter (counterNext (s .send .counter)) s
+unfolding S.sendTick
+rest-send-tick s p =
+    let t = sendCounter (counterNext (s .send .counter)) s in
+    ap (λ (u : Serial). cond (rollsOver (s .send .counter)) u t) (rest-move t p) ∙ cond-same (rollsOver (s .send .counter)) t
+
+pub rest-send-ticks : (n : ℕ) (s : Serial) → s .send .position ≡ 0 → s .send .counter ≤ 15
+    → S.sendTicks n s ≡ sendCounter ((s .send .counter + n) % 16) s
+unfolding S.sendTicks
+rest-send-ticks zero s p h =
+    let e : s .send .counter ≡ (s .send .counter + 0) % 16 = omega arith in
+    ap (λ (c : ℕ). sendCounter c s) e
+rest-send-ticks (suc n) s p h =
+    let t = sendCounter (counterNext (s .send .counter)) s in
+    let e : (counterNext (s .send .counter) + n) % 16 ≡ (s .send .counter + suc n) % 16 = omega arith in
+    ap (S.sendTicks n) (rest-send-tick s p) ∙ rest-send-ticks n t p (omega arith) ∙ ap (λ (c : ℕ). sendCounter c s) e
+
+-- Receiving
+
+and-none : (a b : Bool) → a && (b && false) ≡ false
+and-none true true = refl
+and-none true false = refl
+and-none false true = refl
+and-none false false = refl
+
+-- once the line is sampled no start bit waits
+none-sampled : (rxd : ℕ) (s : Serial) → startWaits rxd (sampled rxd s) ≡ false
+none-sampled zero s = and-none (eqb (bit REN (s .scon)) 1) true
+none-sampled (suc n) s =
+    ap (λ (z : Bool). eqb (bit REN (s .scon)) 1 && (eqb (suc n) 1 && z)) (eqb·suc-zero n) ∙ and-none (eqb (bit REN (s .scon)) 1) (eqb (suc n) 1)
+
+rest-tick : (rxd : ℕ) (s : Serial) → s .receive .position ≡ 0 → startWaits rxd s ≡ false → S.receiveTick rxd s ≡ sampled rxd s
+unfolding S.receiveTick S.receiveStart
+rest-tick rxd s p w = simp (eq-eqb (s .receive .position) 0 p, w)
+
+pub rest-receive-ticks : (n rxd : ℕ) (s : Serial) → s .receive .position ≡ 0 → startWaits rxd s ≡ false
+    → S.receiveTicks n rxd s ≡ sampled (cond (eqb n 0) (s .receive .sample) rxd) s
+unfolding S.receiveTicks
+rest-receive-ticks zero rxd s p w = refl
+rest-receive-ticks (suc n) rxd s p w =
+    ap (S.receiveTicks n rxd) (rest-tick rxd s p w) ∙ rest-receive-ticks n rxd (sampled rxd s) p (none-sampled rxd s)
+    ∙ ap (λ (l : ℕ). sampled l s) (cond-same (eqb n 0) rxd ∙ sym (ap (λ (z : Bool). cond z (s .receive .sample) rxd) (eqb·suc-zero n)))
+
+-- Step 5
+
+-- in mode 0
+pub rest-shift : (k : Ticks) (rxd : ℕ) (s : Serial) → serialMode (s .scon) ≡ 0 → s .send .position ≡ 0 → s .receive .position ≡ 0
+    → S.serialStep k rxd s ≡ withHalf (k .half) s
+unfolding S.serialStep S.send S.sendMove S.receive S.receiveShift
+rest-shift k rxd s m p q = simp (eq-eqb (serialMode (s .scon)) 0 m, eq-eqb (s .send .position) 0 p, eq-eqb (s .receive .position) 0 q)
+
+-- in modes 1 to 3 without ticks, whatever is under way
+pub rest-no-ticks : (k : Ticks) (rxd : ℕ) (s : Serial) → (serialMode (s .scon) ≡ 0 → ⊥) → k .send ≡ 0 → k .receive ≡ 0
+    → S.serialStep k rxd s ≡ withHalf (k .half) s
+unfolding S.serialStep S.send S.sendTicks S.receive S.receiveTicks
+rest-no-ticks k rxd s m p q = simp (ne-eqb (serialMode (s .scon)) 0 m, p, q)
+
+-- in modes 1 to 3 with ticks and no start bit waiting
+pub rest-ticks : (k : Ticks) (rxd : ℕ) (s : Serial) → (serialMode (s .scon) ≡ 0 → ⊥) → s .send .position ≡ 0 → s .receive .position ≡ 0
+    → s .send .counter ≤ 15 → startWaits rxd s ≡ false
+    → S.serialStep k rxd s ≡ sampled (cond (eqb (k .receive) 0) (s .receive .sample) rxd) (sendCounter ((s .send .counter + k .send) % 16) (withHalf (k .half) s))
+unfolding S.serialStep S.send S.receive
+rest-ticks k rxd s m p q h w =
+    let t = withHalf (k .half) s in
+    let u = sendCounter ((s .send .counter + k .send) % 16) t in
+    simp (ne-eqb (serialMode (s .scon)) 0 m, rest-send-ticks (k .send) t p h) (rest-receive-ticks (k .receive) rxd u q w)
+
+-- with a tick of the receiver, as every cycle of mode 2 brings, the line is sampled
+pub rest-sampled : (k : Ticks) (rxd : ℕ) (s : Serial)
+    → (serialMode (s .scon) ≡ 0 → ⊥) → s .send .position ≡ 0 → s .receive .position ≡ 0 → s .send .counter ≤ 15 → startWaits rxd s ≡ false → 1 ≤ k .receive
+    → S.serialStep k rxd s ≡ sampled rxd (sendCounter ((s .send .counter + k .send) % 16) (withHalf (k .half) s))
+rest-sampled k rxd s m p q h w l =
+    rest-ticks k rxd s m p q h w
+    ∙ ap (λ (b : Bool). sampled (cond b (s .receive .sample) rxd) (sendCounter ((s .send .counter + k .send) % 16) (withHalf (k .half) s)))
+    (ne-eqb (k .receive) 0 (λ e. omega arith))
+
+-- in any mode, by one test: nothing under way in mode 0, or no tick in the others
+pub rest-idles : (k : Ticks) (rxd : ℕ) (s : Serial) → idles k s ≡ true → S.serialStep k rxd s ≡ withHalf (k .half) s
+rest-idles k rxd s e =
+    let m = serialMode (s .scon) in
+    let none = eqb (k .send) 0 && eqb (k .receive) 0 in
+    let rest = eqb (s .send .position) 0 && eqb (s .receive .position) 0 in
+    let n = and-left none (not (eqb m 0) || rest) e in
+    let o = and-right none (not (eqb m 0) || rest) e in
+    by-test (eqb m 0)
+    (λ z.
+    let r : rest ≡ true = simp z at o in
+    rest-shift k rxd s (eqb-true m 0 z)
+    (eqb-true (s .send .position) 0 (and-left (eqb (s .send .position) 0) (eqb (s .receive .position) 0) r))
+    (eqb-true (s .receive .position) 0 (and-right (eqb (s .send .position) 0) (eqb (s .receive .position) 0) r)))
+    (λ z. rest-no-ticks k rxd s (eqb-false m 0 z)
+    (eqb-true (k .send) 0 (and-left (eqb (k .send) 0) (eqb (k .receive) 0) n))
+    (eqb-true (k .receive) 0 (and-right (eqb (k .send) 0) (eqb (k .receive) 0) n)))

@@ -1,0 +1,366 @@
+-- The serial port stays within its ranges and in its mode, part by part, in a cycle and in a write; and at most 6 ticks come.
+use mathlib.Core.Path.{_≡_, refl, sym, subst, _∙_}
+use mathlib.Core.Bool.{Bool, true, false, cond, _&&_, _||_, not}
+use Prim.Native.Nat.{ℕ, zero, suc, _+_, _-_, _%_, _≤_, _<_, zero-le}
+use native.Mathlib.Nat.{mod-lt, zero-lt-suc}
+use native.Mathlib.Omega.{arith}
+use lib.Dec.{eqb, leb, leb→le}
+use borrow.Author.Tests.{eqb-true, eqb-false, leb-true, leb-false, le-leb, ne-eqb}
+use Rattle.machine.specs.declared.Sender.{Sender}
+use Rattle.machine.specs.declared.Receiver.{Receiver}
+use Rattle.machine.specs.declared.Serial.{Serial}
+use Rattle.machine.specs.declared.Ticks.{Ticks}
+use Rattle.machine.specs.Bits.{bit, setBit, putBit}
+use Rattle.machine.specs.Record.{serialMode, lastPosition}
+use Rattle.machine.specs.Registers.{SMOD, SM2, REN, TB8, RB8, TI, RI, RCLK, TCLK, SM01}
+use Rattle.machine.specs.Serial as S
+use Rattle.machine.specs.Serial.{withSend, withReceive, withReceived, withHalf, sendAt, receiveAt, withVotes, withValue, withSample, sendCounted, counterNext, rollsOver}
+use Rattle.laws.proofs.Tests.{all, at}
+use Rattle.laws.proofs.Bits.{bit-below, field-set-above, field-put-above, set-lt, put-lt}
+use Rattle.serial.specs.Ranges.{SenderOk, ReceiverOk, SerialOk, TicksOk}
+use Rattle.serial.proofs.Cases.{cond-has}
+use Rattle.serial.proofs.Receiving.{bit-of-below, done-receive}
+
+-- the last position of mode m
+abbrev last : ℕ → ℕ
+last m = cond (leb 2 m) 11 10
+
+last-least : (m : ℕ) → 10 ≤ last m
+last-least m = cond-has (λ (l : ℕ). 10 ≤ l) (leb 2 m) 11 10 (λ e. omega arith) (λ e. omega arith)
+
+pub last-most : (m : ℕ) → last m ≤ 11
+last-most m = cond-has (λ (l : ℕ). l ≤ 11) (leb 2 m) 11 10 (λ e. omega arith) (λ e. omega arith)
+
+-- no position is past the ninth bit's
+pub sends-below : (s : Serial) → SerialOk s → s .send .position ≤ 11
+sends-below s o = omega (arith, o .send .position, last-most (serialMode (s .scon)))
+
+-- the ranges, and mode m
+pub record Kept (m : ℕ) (s : Serial) : Type 0 where
+  pub scon : s .scon < 256
+  pub mode : serialMode (s .scon) ≡ m
+  pub send : SenderOk (last m) (s .send)
+  pub receive : ReceiverOk (last m) (s .receive)
+  pub half : s .half ≤ 1
+  pub received : s .received < 256
+
+pub kept : (s : Serial) → SerialOk s → Kept (serialMode (s .scon)) s
+kept s o = record { scon = o .scon; mode = refl; send = o .send; receive = o .receive; half = o .half; received = o .received }
+
+pub ok : (m : ℕ) (s : Serial) → Kept m s → SerialOk s
+ok m s k =
+    record {
+      scon = k .scon;
+      send = subst (λ (n : ℕ). SenderOk (last n) (s .send)) (sym (k .mode)) (k .send);
+      receive = subst (λ (n : ℕ). ReceiverOk (last n) (s .receive)) (sym (k .mode)) (k .receive);
+      half = k .half;
+      received = k .received;
+    }
+
+-- other parts within their ranges
+
+with-receive : (m : ℕ) (r : Receiver) (s : Serial) → Kept m s → ReceiverOk (last m) r → Kept m (withReceive r s)
+with-receive m r s k o = record { scon = k .scon; mode = k .mode; send = k .send; receive = o; half = k .half; received = k .received }
+
+with-send : (m scon : ℕ) (u : Sender) (s : Serial) → Kept m s → scon < 256 → serialMode scon ≡ m → SenderOk (last m) u → Kept m (withSend scon u s)
+with-send m scon u s k h e o = record { scon = h; mode = e; send = o; receive = k .receive; half = k .half; received = k .received }
+
+with-received : (m scon b : ℕ) (s : Serial) → Kept m s → scon < 256 → serialMode scon ≡ m → b < 256 → Kept m (withReceived scon b s)
+with-received m scon b s k h e l = record { scon = h; mode = e; send = k .send; receive = k .receive; half = k .half; received = l }
+
+pub with-half : (m h : ℕ) (s : Serial) → Kept m s → h ≤ 1 → Kept m (withHalf h s)
+with-half m h s k l = record { scon = k .scon; mode = k .mode; send = k .send; receive = k .receive; half = l; received = k .received }
+
+send-at : (l p : ℕ) (u : Sender) → SenderOk l u → p ≤ l → SenderOk l (sendAt p u)
+send-at l p u o h = record { position = h; value = o .value; counter = o .counter }
+
+receive-at : (l p : ℕ) (r : Receiver) → ReceiverOk l r → p ≤ l → ReceiverOk l (receiveAt p r)
+receive-at l p r o h = record { position = h; value = o .value; counter = o .counter; votes = o .votes; sample = o .sample }
+
+with-value : (l v : ℕ) (r : Receiver) → ReceiverOk l r → v ≤ 511 → ReceiverOk l (withValue v r)
+with-value l v r o h = record { position = o .position; value = h; counter = o .counter; votes = o .votes; sample = o .sample }
+
+with-votes : (l v : ℕ) (r : Receiver) → ReceiverOk l r → v ≤ 2 → ReceiverOk l (withVotes v r)
+with-votes l v r o h = record { position = o .position; value = o .value; counter = o .counter; votes = h; sample = o .sample }
+
+with-sample : (l v : ℕ) (r : Receiver) → ReceiverOk l r → v ≤ 1 → ReceiverOk l (withSample v r)
+with-sample l v r o h = record { position = o .position; value = o .value; counter = o .counter; votes = o .votes; sample = h }
+
+-- a bit of the value, and the low bits of SCON
+
+value-put : (place b v : ℕ) → place < 9 → b ≤ 1 → v ≤ 511 → putBit place b v ≤ 511
+value-put place b v h l o = let p : putBit place b v < 512 = put-lt 9 place b v h (omega arith) (omega arith) in omega arith
+
+counted : (n : ℕ) → counterNext n ≤ 15
+counted n = omega arith
+
+-- Sending
+
+move-kept : (m : ℕ) (s : Serial) → Kept m s → Kept m (S.sendMove s)
+unfolding S.sendMove
+move-kept m s k =
+    let p = s .send .position in
+    let u = s .send in
+    cond-has (Kept m) (eqb p 0) s _ (λ e. k)
+    (λ e. cond-has (Kept m) (eqb p (lastPosition (s .scon))) (withSend (setBit TI (s .scon)) (sendAt 0 u) s) (withSend (s .scon) (sendAt (p + 1) u) s)
+    (λ d. with-send m (setBit TI (s .scon)) (sendAt 0 u) s k (set-lt 8 TI (s .scon) (omega arith) (k .scon)) (field-set-above SM01 2 TI (s .scon) (omega arith) ∙ k .mode)
+    (send-at (last m) 0 u (k .send) zero-le))
+    (λ d.
+    let n = eqb-false p (last m) (subst (λ (l : ℕ). eqb p (last l) ≡ false) (k .mode) d) in
+    with-send m (s .scon) (sendAt (p + 1) u) s k (k .scon) (k .mode) (send-at (last m) (p + 1) u (k .send) (omega (arith, n, k .send .position)))))
+
+tick-kept : (m : ℕ) (s : Serial) → Kept m s → Kept m (S.sendTick s)
+unfolding S.sendTick
+tick-kept m s k =
+    let t = withSend (s .scon) (sendCounted (s .send)) s in
+    let o : Kept m t = with-send m (s .scon) (sendCounted (s .send)) s k (k .scon) (k .mode)
+    (record { position = k .send .position; value = k .send .value; counter = counted (s .send .counter) }) in
+    cond-has (Kept m) (rollsOver (s .send .counter)) (S.sendMove t) t (λ e. move-kept m t o) (λ e. o)
+
+ticks-kept : (m n : ℕ) (s : Serial) → Kept m s → Kept m (S.sendTicks n s)
+unfolding S.sendTicks
+ticks-kept m zero s k = k
+ticks-kept m (suc n) s k = ticks-kept m n (S.sendTick s) (tick-kept m s k)
+
+pub send-kept : (m n : ℕ) (s : Serial) → Kept m s → Kept m (S.send n s)
+unfolding S.send
+send-kept m n s k =
+    cond-has (Kept m) (eqb (serialMode (s .scon)) 0) (S.sendMove s) (S.sendTicks n s) (λ e. move-kept m s k) (λ e. ticks-kept m n s k)
+
+-- Receiving
+
+start-kept : (m rxd : ℕ) (s : Serial) → Kept m s → Kept m (S.receiveStart rxd s)
+unfolding S.receiveStart
+start-kept m rxd s k =
+    let r = s .receive in
+    let started : Receiver = record { position = 1; value = 0; counter = 0; votes = r .votes; sample = r .sample } in
+    cond-has (Kept m) (eqb (bit REN (s .scon)) 1 && (eqb (r .sample) 1 && eqb rxd 0)) (withReceive started s) s
+    (λ e. with-receive m started s k
+    (record { position = omega (arith, last-least m); value = zero-le; counter = zero-le; votes = k .receive .votes; sample = k .receive .sample }))
+    (λ e. k)
+
+-- a rollover in modes 1 to 3, at every position: 48 cases
+rolled : ℕ → ℕ → ℕ
+rolled m p = cond ((eqb p 10 && eqb m 1) || eqb p 11) 0 (p + 1)
+
+rolls : ℕ → ℕ → Bool
+rolls m p = cond (not (eqb m 0) && leb p (last m)) (leb (rolled m p) (last m)) true
+
+rolls-all : ℕ → Bool
+rolls-all m = all (rolls m) 12
+
+rolled-within : (scon p : ℕ) → (serialMode scon ≡ 0 → ⊥) → p ≤ lastPosition scon → S.receiveRolled scon p ≤ lastPosition scon
+unfolding S.receiveRolled rolled rolls rolls-all
+rolled-within scon p z h =
+    let m = serialMode scon in
+    let t = at (rolls m) 12 (at rolls-all 4 tt m (mod-lt _ (zero-lt-suc 3))) p (omega (arith, last-most m)) in
+    leb→le (rolled m p) (last m) (simp (ne-eqb m 0 z, le-leb p (last m) h) at t)
+
+counted-kept : (m scon : ℕ) (r : Receiver) → serialMode scon ≡ m → (m ≡ 0 → ⊥) → ReceiverOk (last m) r → ReceiverOk (last m) (S.receiveCounted scon r)
+unfolding S.receiveCounted
+counted-kept m scon r e z o =
+    record {
+      position = cond-has (λ (p : ℕ). p ≤ last m) (rollsOver (r .counter)) (S.receiveRolled scon (r .position)) (r .position)
+          (λ d. subst (λ (n : ℕ). S.receiveRolled scon (r .position) ≤ last n) e
+          (rolled-within scon (r .position) (λ q. z (sym e ∙ q)) (subst (λ (n : ℕ). r .position ≤ last n) (sym e) (o .position))))
+          (λ d. o .position);
+      value = o .value;
+      counter = counted (r .counter);
+      votes = o .votes;
+      sample = o .sample;
+    }
+
+votes-within : (votes rxd : ℕ) → S.votesAdded votes rxd ≤ 2
+unfolding S.votesAdded
+votes-within votes rxd =
+    cond-has (λ (v : ℕ). v ≤ 2) (leb 2 (votes + rxd)) 2 (votes + rxd) (λ e. omega arith) (λ e. omega (arith, leb-false 2 (votes + rxd) e))
+
+done-kept : (m b : ℕ) (s : Serial) → b ≤ 1 → Kept m s → Kept m (S.frameDone b s)
+unfolding S.frameDone
+done-kept m b s l k =
+    let put = putBit RB8 b (s .scon) in
+    cond-has (Kept m) (eqb (bit RI (s .scon)) 0 && (eqb (bit SM2 (s .scon)) 0 || eqb b 1)) (withReceived (setBit RI put) (s .receive .value % 256) s) s
+    (λ e. with-received m (setBit RI put) (s .receive .value % 256) s k
+    (set-lt 8 RI put (omega arith) (put-lt 8 RB8 b (s .scon) (omega arith) (omega arith) (k .scon)))
+    (field-set-above SM01 2 RI put (omega arith) ∙ field-put-above SM01 2 RB8 b (s .scon) (omega arith) (omega arith) ∙ k .mode)
+    (omega arith))
+    (λ e. k)
+
+-- the receive position at rest
+rests-kept : (m : ℕ) (s : Serial) → Kept m s → Kept m (withReceive (receiveAt 0 (s .receive)) s)
+rests-kept m s k = with-receive m (receiveAt 0 (s .receive)) s k (receive-at (last m) 0 (s .receive) (k .receive) zero-le)
+
+bit-kept : (m b : ℕ) (s : Serial) → b ≤ 1 → Kept m s → Kept m (S.receiveBit b s)
+unfolding S.receiveBit
+bit-kept m b s l k =
+    let r = s .receive in
+    let p = r .position in
+    let done = S.frameDone b s in
+    let o = done-kept m b s l k in
+    let v = putBit (p - 2) b (r .value) in
+    cond-has (Kept m) (eqb p 1) _ _
+    (λ e. cond-has (Kept m) (eqb b 1) (withReceive (receiveAt 0 r) s) s (λ d. rests-kept m s k) (λ d. k))
+    (λ e. cond-has (Kept m) (leb p 9) (withReceive (withValue v r) s) _
+    (λ d. with-receive m (withValue v r) s k (with-value (last m) v r (k .receive)
+    (value-put (p - 2) b (r .value) (omega (arith, leb-true p 9 d)) l (k .receive .value))))
+    (λ d. cond-has (Kept m) (eqb p 10) _ (withReceive (receiveAt 0 r) s)
+    (λ f. cond-has (Kept m) (eqb (serialMode (s .scon)) 1) (withReceive (receiveAt 0 r) done) done
+    (λ g. subst (λ (q : Receiver). Kept m (withReceive (receiveAt 0 q) done)) (done-receive b s) (rests-kept m done o)) (λ g. o))
+    (λ f. rests-kept m s k)))
+
+work-kept : (m rxd : ℕ) (s : Serial) → (m ≡ 0 → ⊥) → rxd ≤ 1 → Kept m s → Kept m (S.receiveWork rxd s)
+unfolding S.receiveWork
+work-kept m rxd s z l k =
+    let r = S.receiveCounted (s .scon) (s .receive) in
+    let o : ReceiverOk (last m) r = counted-kept m (s .scon) (s .receive) (k .mode) z (k .receive) in
+    let t = withReceive r s in
+    let n = r .counter in
+    let kt = with-receive m r s k o in
+    let added = S.votesAdded (r .votes) rxd in
+    cond-has (Kept m) (eqb n 7) (withReceive (withVotes rxd r) s) _
+    (λ e. with-receive m (withVotes rxd r) s k (with-votes (last m) rxd r o (omega arith)))
+    (λ e. cond-has (Kept m) (eqb n 8) (withReceive (withVotes added r) s) _
+    (λ d. with-receive m (withVotes added r) s k (with-votes (last m) added r o (votes-within (r .votes) rxd)))
+    (λ d. cond-has (Kept m) (eqb n 9) (S.receiveBit (S.bitOf (r .votes) rxd) t) t
+    (λ f. bit-kept m (S.bitOf (r .votes) rxd) t (bit-of-below (r .votes) rxd) kt) (λ f. kt)))
+
+pub receive-tick-kept : (m rxd : ℕ) (s : Serial) → (m ≡ 0 → ⊥) → rxd ≤ 1 → Kept m s → Kept m (S.receiveTick rxd s)
+unfolding S.receiveTick
+receive-tick-kept m rxd s z l k =
+    let t = cond (eqb (s .receive .position) 0) (S.receiveStart rxd s) (S.receiveWork rxd s) in
+    let o = cond-has (Kept m) (eqb (s .receive .position) 0) (S.receiveStart rxd s) (S.receiveWork rxd s)
+    (λ e. start-kept m rxd s k) (λ e. work-kept m rxd s z l k) in
+    with-receive m (withSample rxd (t .receive)) t o (with-sample (last m) rxd (t .receive) (o .receive) l)
+
+receive-ticks-kept : (m n rxd : ℕ) (s : Serial) → (m ≡ 0 → ⊥) → rxd ≤ 1 → Kept m s → Kept m (S.receiveTicks n rxd s)
+unfolding S.receiveTicks
+receive-ticks-kept m zero rxd s z l k = k
+receive-ticks-kept m (suc n) rxd s z l k = receive-ticks-kept m n rxd (S.receiveTick rxd s) z l (receive-tick-kept m rxd s z l k)
+
+shift-kept : (m rxd : ℕ) (s : Serial) → rxd ≤ 1 → Kept m s → Kept m (S.receiveShift rxd s)
+unfolding S.receiveShift
+shift-kept m rxd s l k =
+    let r = s .receive in
+    let p = r .position in
+    let v = putBit (p - 2) rxd (r .value) in
+    let taken = withReceived (setBit RI (s .scon)) (r .value % 256) s in
+    cond-has (Kept m) (eqb p 0) s _ (λ e. k)
+    (λ e. cond-has (Kept m) (eqb p 1) (withReceive (receiveAt 2 r) s) _
+    (λ d. with-receive m (receiveAt 2 r) s k (receive-at (last m) 2 r (k .receive) (omega (arith, last-least m))))
+    (λ d. cond-has (Kept m) (leb p 9) (withReceive (receiveAt (p + 1) (withValue v r)) s) (withReceive (receiveAt 0 r) taken)
+    (λ f.
+    let h = leb-true p 9 f in
+    with-receive m (receiveAt (p + 1) (withValue v r)) s k
+    (receive-at (last m) (p + 1) (withValue v r)
+    (with-value (last m) v r (k .receive) (value-put (p - 2) rxd (r .value) (omega arith) l (k .receive .value)))
+    (omega (arith, last-least m))))
+    (λ f. rests-kept m taken (with-received m (setBit RI (s .scon)) (r .value % 256) s k (set-lt 8 RI (s .scon) (omega arith) (k .scon))
+    (field-set-above SM01 2 RI (s .scon) (omega arith) ∙ k .mode) (omega arith)))))
+
+receive-kept : (m n rxd : ℕ) (s : Serial) → rxd ≤ 1 → Kept m s → Kept m (S.receive n rxd s)
+unfolding S.receive
+receive-kept m n rxd s l k =
+    cond-has (Kept m) (eqb (serialMode (s .scon)) 0) (S.receiveShift rxd s) (S.receiveTicks n rxd s) (λ e. shift-kept m rxd s l k)
+    (λ e. receive-ticks-kept m n rxd s (λ q. eqb-false (serialMode (s .scon)) 0 e (k .mode ∙ q)) l k)
+
+-- Step 5 keeps the ranges, and the mode
+
+step-kept : (k : Ticks) (rxd : ℕ) (s : Serial) → k .half ≤ 1 → rxd ≤ 1 → SerialOk s → Kept (serialMode (s .scon)) (S.serialStep k rxd s)
+unfolding S.serialStep
+step-kept k rxd s h l o =
+    let m = serialMode (s .scon) in
+    let t = withHalf (k .half) s in
+    receive-kept m (k .receive) rxd (S.send (k .send) t) l (send-kept m (k .send) t (with-half m (k .half) s (kept s o) h))
+
+pub step-ok : (k : Ticks) (rxd : ℕ) (s : Serial) → k .half ≤ 1 → rxd ≤ 1 → SerialOk s → SerialOk (S.serialStep k rxd s)
+step-ok k rxd s h l o = ok (serialMode (s .scon)) (S.serialStep k rxd s) (step-kept k rxd s h l o)
+
+pub step-mode : (k : Ticks) (rxd : ℕ) (s : Serial) → k .half ≤ 1 → rxd ≤ 1 → SerialOk s → serialMode (S.serialStep k rxd s .scon) ≡ serialMode (s .scon)
+step-mode k rxd s h l o = step-kept k rxd s h l o .mode
+
+-- Step 4
+
+ticks1-within : (smod half overflow1 : ℕ) → overflow1 ≤ 1 → S.ticks1 smod half overflow1 ≤ 1
+unfolding S.ticks1
+ticks1-within smod half o h =
+    cond-has (λ (n : ℕ). n ≤ 1) (eqb smod 1) o _ (λ e. h) (λ e. cond-has (λ (n : ℕ). n ≤ 1) (eqb half 1) o 0 (λ d. h) (λ d. zero-le))
+
+ticks-of-within : (mode smod clock one two : ℕ) → one ≤ 1 → two ≤ 6 → S.ticksOf mode smod clock one two ≤ 6
+unfolding S.ticksOf
+ticks-of-within mode smod clock one two h l =
+    cond-has (λ (n : ℕ). n ≤ 6) (eqb mode 0) 0 _ (λ e. zero-le)
+    (λ e. cond-has (λ (n : ℕ). n ≤ 6) (eqb mode 2) _ _
+    (λ d. cond-has (λ (n : ℕ). n ≤ 6) (eqb smod 1) 6 3 (λ f. omega arith) (λ f. omega arith))
+    (λ d. cond-has (λ (n : ℕ). n ≤ 6) (eqb clock 1) two one (λ f. l) (λ f. omega arith)))
+
+half-within : (smod half overflow1 : ℕ) → half ≤ 1 → S.halfAfter smod half overflow1 ≤ 1
+unfolding S.halfAfter
+half-within smod half o h = cond-has (λ (n : ℕ). n ≤ 1) (eqb smod 1) half ((half + o) % 2) (λ e. h) (λ e. omega arith)
+
+pub ticks-ok : (pcon t2con : ℕ) (s : Serial) (overflow1 overflows2 : ℕ) → s .half ≤ 1 → overflow1 ≤ 1 → overflows2 ≤ 6
+    → TicksOk (S.serialTicks pcon t2con s overflow1 overflows2)
+unfolding S.serialTicks
+ticks-ok pcon t2con s one two h l n =
+    let o = ticks1-within (bit SMOD pcon) (s .half) one l in
+    record {
+      send = ticks-of-within (serialMode (s .scon)) (bit SMOD pcon) (bit TCLK t2con) (S.ticks1 (bit SMOD pcon) (s .half) one) two o n;
+      receive = ticks-of-within (serialMode (s .scon)) (bit SMOD pcon) (bit RCLK t2con) (S.ticks1 (bit SMOD pcon) (s .half) one) two o n;
+      half = half-within (bit SMOD pcon) (s .half) one h;
+    }
+
+-- Writes
+
+pub write-sbuf-ok : (v : ℕ) (s : Serial) → v < 256 → SerialOk s → SerialOk (S.writeSbuf v s)
+unfolding S.writeSbuf
+write-sbuf-ok v s h o =
+    record {
+      scon = o .scon;
+      send =
+          record {
+            position = omega (arith, last-least (serialMode (s .scon)));
+            value = omega (arith, bit-below TB8 (s .scon));
+            counter = o .send .counter;
+          };
+      receive = o .receive;
+      half = o .half;
+      received = o .received;
+    }
+
+asked-ok : (s : Serial) → SerialOk s → SerialOk (S.receiveAsked s)
+unfolding S.receiveAsked
+asked-ok s o =
+    let m = serialMode (s .scon) in
+    let asked = (eqb m 0 && eqb (bit REN (s .scon)) 1) && (eqb (bit RI (s .scon)) 0 && eqb (s .receive .position) 0) in
+    cond-has SerialOk asked (withReceive (receiveAt 1 (s .receive)) s) s
+    (λ e. record {
+      scon = o .scon;
+      send = o .send;
+      receive = receive-at (last m) 1 (s .receive) (o .receive) (omega (arith, last-least m));
+      half = o .half;
+      received = o .received;
+    })
+    (λ e. o)
+
+pub write-scon-ok : (v : ℕ) (s : Serial) → v < 256 → SerialOk s → SerialOk (S.writeScon v s)
+unfolding S.writeScon
+write-scon-ok v s h o =
+    let same = withSend v (s .send) s in
+    let rested = withReceive (receiveAt 0 (s .receive)) (withSend v (sendAt 0 (s .send)) s) in
+    asked-ok (cond (eqb (serialMode v) (serialMode (s .scon))) same rested)
+    (cond-has SerialOk (eqb (serialMode v) (serialMode (s .scon))) same rested
+    (λ e.
+    let d = sym (eqb-true (serialMode v) (serialMode (s .scon)) e) in
+    record {
+      scon = h;
+      send = subst (λ (m : ℕ). SenderOk (last m) (s .send)) d (o .send);
+      receive = subst (λ (m : ℕ). ReceiverOk (last m) (s .receive)) d (o .receive);
+      half = o .half;
+      received = o .received;
+    })
+    (λ e. record {
+      scon = h;
+      send = record { position = zero-le; value = o .send .value; counter = o .send .counter };
+      receive = record { position = zero-le; value = o .receive .value; counter = o .receive .counter; votes = o .receive .votes; sample = o .receive .sample };
+      half = o .half;
+      received = o .received;
+    }))

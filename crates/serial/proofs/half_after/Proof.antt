@@ -1,0 +1,25 @@
+-- `serial::half_after` is halfAfter: a sum that wraps at 256 keeps its lowest bit.
+use native.Mathlib.Omega.{arith}
+use mathlib.Core.Path.{_≡_}
+use Prim.Native.Nat.{_+_, _%_}
+use Rattle.laws.proofs.Bits.{low1}
+use Rattle.machine.specs.Serial.{halfAfter}
+use borrow.Author.Needs.{needs}
+use Rattle.serial.proofs.half_after.Statement.{statement}
+use Rattle.serial.proofs.half_after.Tie as tie
+
+wrapping-add-u8-requires : tie.Need-wrapping-add-u8-requires
+wrapping-add-u8-requires c κs = search needs
+
+picked-requires : tie.Need-picked-requires
+picked-requires c κs = search needs
+
+returns : tie.Need-returns
+unfolding halfAfter
+returns c =
+    let b = c .before in
+    let e : b .wrapping-add-u8 .result % 2 ≡ (b .before .args .half + b .before .args .overflow1) % 2 = omega (arith, b .wrapping-add-u8 .ensures) in
+    simp (c .picked .ensures, low1, e)
+
+pub half-after-spec : {M : Type 1} → statement M
+half-after-spec = tie.close (tie.spec wrapping-add-u8-requires picked-requires returns)

@@ -1,0 +1,130 @@
+-- Step 2 keeps ranges: registers that are bytes stay bytes, TMOD and the due marks stay, and each overflow is 0 or 1, by cases on what counts.
+use mathlib.Core.Path.{_≡_, refl}
+use mathlib.Core.Bool.{Bool, true, false, cond}
+use Prim.Native.Nat.{ℕ, _<_, _≤_}
+use native.Mathlib.Omega.{arith}
+use lib.Dec.{eqb}
+use Rattle.laws.proofs.Bits.{set-lt}
+use Rattle.machine.specs.Counting.{overflow, count13, count16, reload8, count8, hold}
+use Rattle.machine.specs.Timers.{mode0, mode1, countIn, flagged, counts0, counts1, countsHigh0, pair0, high0, highOverflow0, pair1, timerFlags, timersStep}
+use Rattle.machine.specs.declared.Count.{Count}
+use Rattle.machine.specs.declared.Timers.{Timers}
+use Rattle.machine.specs.declared.TimersCounted.{TimersCounted}
+
+-- the registers of Timers 0 and 1 are bytes
+pub record Bytes (t : Timers) : Type 0 where
+  pub tcon : t .tcon < 256
+  pub tmod : t .tmod < 256
+  pub tl0 : t .tl0 < 256
+  pub tl1 : t .tl1 < 256
+  pub th0 : t .th0 < 256
+  pub th1 : t .th1 < 256
+
+-- what step 2 keeps of the timers t
+pub record Kept (t : Timers) (r : TimersCounted) : Type 0 where
+  pub bytes : Bytes (r .timers)
+  pub tmod : r .timers .tmod ≡ t .tmod
+  pub due0 : r .timers .due0 ≡ t .due0
+  pub due1 : r .timers .due1 ≡ t .due1
+  pub low : r .tl0 ≤ 1
+  pub high : r .th0 ≤ 1
+  pub one : r .timer1 ≤ 1
+
+-- a register pair after a count
+record Counted (n : Count) : Type 0 where
+  tl : n .tl < 256
+  th : n .th < 256
+  overflow : n .overflow ≤ 1
+
+-- what holds of both holds of either
+either : {A : Type 0} (P : A → Type 0) (b : Bool) {x y : A} → P x → P y → P (cond b x y)
+either P true p q = p
+either P false p q = q
+
+-- a byte with a flag set is a byte
+pub flagged-below : (k o x : ℕ) → k < 8 → x < 256 → flagged k o x < 256
+unfolding flagged
+flagged-below k o x h l = either (λ (n : ℕ). n < 256) (eqb o 1) (set-lt 8 k x h l) l
+
+module _ (tl th : ℕ) (l : tl < 256) (h : th < 256) where
+  holding : Counted (hold tl th)
+  unfolding hold
+  holding = record { tl = l; th = h; overflow = omega arith }
+
+  counting8 : Counted (count8 tl th)
+  unfolding count8
+  counting8 = record { tl = omega arith; th = h; overflow = omega arith }
+
+  counting13 : Counted (count13 tl th)
+  unfolding count13
+  counting13 = record { tl = omega arith; th = omega arith; overflow = omega arith }
+
+  counting16 : Counted (count16 tl th)
+  unfolding count16
+  counting16 = record { tl = omega arith; th = omega arith; overflow = omega arith }
+
+  reloading : Counted (reload8 tl th)
+  unfolding reload8
+  reloading =
+      record { tl = either (λ (n : ℕ). n < 256) (eqb (overflow 8 tl) 1) h (omega arith); th = h; overflow = omega arith }
+
+  counting : (mode : ℕ) (three : Count) → Counted three → Counted (countIn mode three tl th)
+  unfolding countIn
+  counting mode three p =
+      either Counted (eqb mode 0) counting13
+      (either Counted (eqb mode 1) counting16 (either Counted (eqb mode 2) reloading p))
+
+module _ (t : Timers) (b : Bytes t) where
+  pair0-counted : (pins : ℕ) → Counted (pair0 t pins)
+  unfolding pair0
+  pair0-counted pins =
+      let tl = t .tl0 in
+      let th = t .th0 in
+      either Counted (counts0 t pins)
+      (counting tl th (b .tl0) (b .th0) (mode0 t) (count8 tl th) (counting8 tl th (b .tl0) (b .th0)))
+      (holding tl th (b .tl0) (b .th0))
+
+  pair1-counted : (pins : ℕ) → Counted (pair1 t pins)
+  unfolding pair1
+  pair1-counted pins =
+      let tl = t .tl1 in
+      let th = t .th1 in
+      let held = holding tl th (b .tl1) (b .th1) in
+      either Counted (counts1 t pins) (counting tl th (b .tl1) (b .th1) (mode1 t) (hold tl th) held) held
+
+  high-below : (th : ℕ) → th < 256 → high0 t th < 256
+  unfolding high0
+  high-below th h = either (λ (n : ℕ). n < 256) (countsHigh0 t) (omega arith) h
+
+  high-overflow : (th : ℕ) → th < 256 → highOverflow0 t th ≤ 1
+  unfolding highOverflow0
+  high-overflow th h = either (λ (n : ℕ). n ≤ 1) (countsHigh0 t) (omega arith) (omega arith)
+
+  flags-below : (low high one : ℕ) → timerFlags t low high one < 256
+  unfolding timerFlags
+  flags-below low high one =
+      flagged-below 7 (cond (eqb (mode0 t) 3) high one) (flagged 5 low (t .tcon)) (omega arith)
+      (flagged-below 5 low (t .tcon) (omega arith) (b .tcon))
+
+  pub step-kept : (pins : ℕ) → Kept t (timersStep t pins)
+  unfolding timersStep
+  step-kept pins =
+      let low = pair0-counted pins in
+      let one = pair1-counted pins in
+      record {
+        bytes =
+            record {
+              tcon = flags-below (pair0 t pins .overflow) (highOverflow0 t (pair0 t pins .th)) (pair1 t pins .overflow);
+              tmod = b .tmod;
+              tl0 = low .tl;
+              tl1 = one .tl;
+              th0 = high-below (pair0 t pins .th) (low .th);
+              th1 = one .th;
+            };
+        tmod = refl;
+        due0 = refl;
+        due1 = refl;
+        low = low .overflow;
+        high = high-overflow (pair0 t pins .th) (low .th);
+        one = one .overflow;
+      }

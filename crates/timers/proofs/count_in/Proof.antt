@@ -1,0 +1,43 @@
+-- `count_in` is its definition, mode by mode.
+use borrow.Author.Tests.{ne-eqb}
+use Rattle.machine.specs.Timers.{countIn}
+use borrow.Author.Needs.{needs}
+use Rattle.timers.proofs.count_in.Statement.{statement}
+use Rattle.timers.proofs.count_in.Tie as tie
+
+count13-requires : tie.Need-count13-requires
+count13-requires c κs = search needs
+
+count16-requires : tie.Need-count16-requires
+count16-requires c κs = search needs
+
+reload8-requires : tie.Need-reload8-requires
+reload8-requires c κs = search needs
+
+returns : tie.Need-returns
+unfolding countIn
+returns c = simp (c .count13 .ensures, c .before .match .keys1)
+
+returns-2 : tie.Need-returns-2
+unfolding countIn
+returns-2 c = simp (c .count16 .ensures, c .before .match .keys2)
+
+returns-3 : tie.Need-returns-3
+unfolding countIn
+returns-3 c = simp (c .reload8 .ensures, c .before .match .keys3)
+
+returns-4 : tie.Need-returns-4
+unfolding countIn
+returns-4 c = simp (ne-eqb _ _ (c .match .rest .0 .0 .1), ne-eqb _ _ (c .match .rest .0 .1), ne-eqb _ _ (c .match .rest .1))
+
+pub count-in-spec : {M : Type 1} → statement M
+count-in-spec =
+    tie.close
+    (tie.spec
+    count13-requires
+    count16-requires
+    reload8-requires
+    returns
+    returns-2
+    returns-3
+    returns-4)

@@ -1,0 +1,18 @@
+-- `overflow8` is the carry out of 8 bits, by the law `carry`.
+use Rattle.timers.proofs.Counting.{carry}
+use native.Mathlib.Omega.{arith}
+use borrow.Author.Needs.{needs}
+use Rattle.timers.proofs.overflow8.Statement.{statement}
+use Rattle.timers.proofs.overflow8.Tie as tie
+
+wrapping-add-u8-requires : tie.Need-wrapping-add-u8-requires
+wrapping-add-u8-requires c κs = search needs
+
+picked-requires : tie.Need-picked-requires
+picked-requires c κs = search needs
+
+returns : tie.Need-returns
+returns c = simp (c .picked .ensures, c .before .wrapping-add-u8 .ensures) (carry 8 (c .before .before .args .n) (omega arith))
+
+pub overflow8-spec : {M : Type 1} → statement M
+overflow8-spec = tie.close (tie.spec wrapping-add-u8-requires picked-requires returns)

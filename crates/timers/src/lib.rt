@@ -1,0 +1,195 @@
+// Step 2 of a cycle: Timers 0 and 1.
+ghost use mathlib.Core.Path.{_≡_};
+ghost use Prim.Native.Nat.{_<_};
+ghost use Rattle.machine.specs.Counting as Counting;
+ghost use Rattle.machine.specs.Timers as Step;
+use machine::Count;
+use machine::Timers;
+use machine::TimersCounted;
+
+// 1 where a count of 8 bits goes from all ones to zero.
+fn overflow8(n: u8) -> u8
+    ensures { λ r. ⌜ r ≡ Counting.overflow 8 n ⌝ }
+{
+    laws::picked(std::num::wrapping_add_u8(n, 1) == 0, 1, 0)
+}
+
+// Mode 0: 13 bits, TH and the low 5 of TL; the top 3 of TL are kept.
+fn count13(tl: u8, th: u8) -> Count
+    ensures { λ r. ⌜ r ≡ Counting.count13 tl th ⌝ }
+{
+    let n = (((th as u16) << 5) | ((tl & 0x1f) as u16)) + 1;
+    Count {
+        tl: (tl & 0xe0) | ((n & 0x1f) as u8),
+        th: ((n >> 5) & 0xff) as u8,
+        overflow: (n >> 13) as u8,
+    }
+}
+
+// Mode 1: 16 bits.
+fn count16(tl: u8, th: u8) -> Count
+    ensures { λ r. ⌜ r ≡ Counting.count16 tl th ⌝ }
+{
+    let n = std::num::wrapping_add_u16(((th as u16) << 8) | (tl as u16), 1);
+    Count {
+        tl: (n & 0xff) as u8,
+        th: (n >> 8) as u8,
+        overflow: laws::picked(n == 0, 1, 0),
+    }
+}
+
+// Mode 2: TL alone, reloaded from TH on overflow.
+fn reload8(tl: u8, th: u8) -> Count
+    ensures { λ r. ⌜ r ≡ Counting.reload8 tl th ⌝ }
+{
+    let over = overflow8(tl);
+    Count {
+        tl: laws::picked(over == 1, th, std::num::wrapping_add_u8(tl, 1)),
+        th: th,
+        overflow: over,
+    }
+}
+
+// TL0 in mode 3: 8 bits.
+fn count8(tl: u8, th: u8) -> Count
+    ensures { λ r. ⌜ r ≡ Counting.count8 tl th ⌝ }
+{
+    Count {
+        tl: std::num::wrapping_add_u8(tl, 1),
+        th: th,
+        overflow: overflow8(tl),
+    }
+}
+
+// Timer 1 in mode 3, and a timer that does not count, hold.
+fn hold(tl: u8, th: u8) -> Count
+    ensures { λ r. ⌜ r ≡ Counting.hold tl th ⌝ }
+{
+    Count {
+        tl: tl,
+        th: th,
+        overflow: 0,
+    }
+}
+
+// One count in modes 0, 1 and 2; what mode 3 does is handed in.
+fn count_in(mode: u8, three: Count, tl: u8, th: u8) -> Count
+    ensures { λ r. ⌜ r ≡ Step.countIn mode three tl th ⌝ }
+{
+    match mode {
+        0 => count13(tl, th),
+        1 => count16(tl, th),
+        2 => reload8(tl, th),
+        _ => three,
+    }
+}
+
+// TRi = 1 and (GATE = 0 or the level of INTi = 1).
+pub fn enabled(run: u8, gate: u8, level: u8) -> bool
+    ensures { λ r. ⌜ r ≡ Step.enabled run gate level ⌝ }
+{
+    (run == 1) & ((gate == 0) | (level == 1))
+}
+
+// As a timer in every cycle, as a counter on its due mark.
+pub fn clocked(counter: u8, due: u8) -> bool
+    ensures { λ r. ⌜ r ≡ Step.clocked counter due ⌝ }
+{
+    (counter == 0) | (due == 1)
+}
+
+// Timer 0 counts in this cycle.
+pub fn counts0(t: Timers, pins: u8) -> bool
+    ensures { λ r. ⌜ r ≡ Step.counts0 t pins ⌝ }
+{
+    enabled((t.tcon >> 4) & 1, (t.tmod >> 3) & 1, (pins >> 1) & 1)
+        & clocked((t.tmod >> 2) & 1, t.due0)
+}
+
+// Timer 1 counts in this cycle: with Timer 0 in mode 3 it is always enabled.
+pub fn counts1(t: Timers, pins: u8) -> bool
+    ensures { λ r. ⌜ r ≡ Step.counts1 t pins ⌝ }
+{
+    (((t.tmod & 3) == 3) | enabled((t.tcon >> 6) & 1, (t.tmod >> 7) & 1, (pins >> 2) & 1))
+        & clocked((t.tmod >> 6) & 1, t.due1)
+}
+
+// TH0 in mode 3 counts cycles while TR1 = 1.
+pub fn counts_high0(t: Timers) -> bool
+    ensures { λ r. ⌜ r ≡ Step.countsHigh0 t ⌝ }
+{
+    ((t.tmod & 3) == 3) & (((t.tcon >> 6) & 1) == 1)
+}
+
+// Timer 0's pair after this cycle's count.
+fn pair0(t: Timers, pins: u8) -> Count
+    ensures { λ r. ⌜ r ≡ Step.pair0 t pins ⌝ }
+{
+    if counts0(t, pins) {
+        count_in(t.tmod & 3, count8(t.tl0, t.th0), t.tl0, t.th0)
+    } else {
+        hold(t.tl0, t.th0)
+    }
+}
+
+// TH0 after its own count in mode 3.
+fn high0(t: Timers, th: u8) -> u8
+    ensures { λ r. ⌜ r ≡ Step.high0 t th ⌝ }
+{
+    laws::picked(counts_high0(t), std::num::wrapping_add_u8(th, 1), th)
+}
+
+// 1 where that count overflows.
+fn high_overflow0(t: Timers, th: u8) -> u8
+    ensures { λ r. ⌜ r ≡ Step.highOverflow0 t th ⌝ }
+{
+    laws::picked(counts_high0(t), overflow8(th), 0)
+}
+
+// Timer 1's pair after this cycle's count.
+fn pair1(t: Timers, pins: u8) -> Count
+    ensures { λ r. ⌜ r ≡ Step.pair1 t pins ⌝ }
+{
+    if counts1(t, pins) {
+        count_in((t.tmod >> 4) & 3, hold(t.tl1, t.th1), t.tl1, t.th1)
+    } else {
+        hold(t.tl1, t.th1)
+    }
+}
+
+// An overflow sets the flag at bit k.
+fn flagged(k: u8, overflow: u8, x: u8) -> u8
+    requires { ⌜ k < 8 ⌝ }
+    ensures { λ r. ⌜ r ≡ Step.flagged k overflow x ⌝ }
+{
+    laws::picked(overflow == 1, x | (1 << k), x)
+}
+
+// TCON after the overflows of Timer 0, of TH0 in mode 3 and of Timer 1; with Timer 0 in mode 3 Timer 1 sets no flag.
+fn timer_flags(t: Timers, low: u8, high: u8, one: u8) -> u8
+    ensures { λ r. ⌜ r ≡ Step.timerFlags t low high one ⌝ }
+{
+    let over = laws::picked((t.tmod & 3) == 3, high, one);
+    flagged(7, over, flagged(5, low, t.tcon))
+}
+
+// Step 2, with the three overflows; Timer 1's clocks the serial port.
+pub fn timers_step(t: Timers, pins: u8) -> TimersCounted
+    ensures { λ r. ⌜ r ≡ Step.timersStep t pins ⌝ }
+{
+    let low = pair0(t, pins);
+    let high = high_overflow0(t, low.th);
+    let one = pair1(t, pins);
+    let mut u = t;
+    u.tcon = timer_flags(t, low.overflow, high, one.overflow);
+    u.tl0 = low.tl;
+    u.tl1 = one.tl;
+    u.th0 = high0(t, low.th);
+    u.th1 = one.th;
+    TimersCounted {
+        timers: u,
+        tl0: low.overflow,
+        th0: high,
+        timer1: one.overflow,
+    }
+}
