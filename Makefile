@@ -1,18 +1,45 @@
 # Two commands: `make demo` builds and runs, `make test` checks everything.
 
-.PHONY: demo test model clean
+.PHONY: demo test lib replay compare soak bench model clean
 
-# The first bench card as a call script, through the model: each call with its answer.
-demo: model
-	@model/target/release/runner <examples/timer0.txt | paste -d '\t' examples/timer0.txt -
+# Eleven stations reading tags. DEMO='--help' lists the options.
+demo: lib
+	@cd rust && cargo build --release --offline --quiet -p station
+	@rust/target/release/station --csv dist/tags.csv --vcd dist/station1.vcd $(DEMO)
 
 # The gate: every proof, every must-fail edit, every test. Its last line is 'N passed, M failed'.
 test:
 	@sh tests/gate.sh
 
+# The C library: dist/libc51.a and dist/c51.h.
+lib:
+	@mkdir -p dist
+	@rt staticlib c51_lent >dist/build.log 2>&1 || { cat dist/build.log; exit 1; }
+	@cp target/staticlib/libc51_lent.a dist/libc51.a && cp include/c51.h dist/c51.h
+
+# replay_main, which answers a call script on standard input: target/bin/replay_main.
+replay:
+	rt check replay_main
+
+# replay_main against the model on fresh random scripts; SEED=N takes a seed again.
+SEED ?= $(shell date +%s)
+compare: replay
+	@echo "seed $(SEED)"
+	@sh tests/compare.sh 8 4000 $(SEED)
+
+# Random lists and raw records through the library and the model. SOAK='--cycles N --records N --seed S'.
+soak: lib
+	@cd rust && cargo build --release --offline --quiet -p compare
+	@rust/target/release/soak $(SOAK)
+
+# Times as ratios in one run. BENCH=--quick is a twentieth of it.
+bench: lib
+	@cd rust && cargo build --release --offline --quiet -p bench
+	@rust/target/release/bench $(BENCH)
+
 # The C51 model by other hands.
 model:
-	cd model && cargo build --release --offline --quiet
+	@cd model && cargo build --release --offline --quiet
 
 clean:
-	rm -rf target dist model/target
+	rm -rf target dist model/target rust/target

@@ -1,7 +1,9 @@
 -- Every call keeps an accepted record accepted: the device of its answer is the one given or one that the parts' ranges accept.
 use mathlib.Core.Path.{_≡_, refl, subst}
 use mathlib.Core.Bool.{Bool, true, false, cond}
+use mathlib.Core.List.{List}
 use Prim.Native.Nat.{ℕ, _<_}
+use lib.Dec.{eqb, leb}
 use Rattle.machine.specs.declared.Device.{Device}
 use Rattle.machine.specs.declared.Interrupts.{Interrupts}
 use Rattle.machine.specs.declared.Answer.{Answer}
@@ -10,13 +12,14 @@ use Rattle.machine.specs.declared.TakeAnswer.{TakeAnswer}
 use Rattle.machine.specs.Registers.{lacks, kept}
 use Rattle.machine.specs.Record.{accepted, pinsOk}
 use Rattle.machine.specs.Interrupts.{Source, none, source, offered, inService, taken, returned, idle}
-use Rattle.machine.specs.Cycle.{cycleOf, refused9}
-use Rattle.machine.specs.Calls.{resetAnswer, writeAnswer, cycleAnswer, takeAnswer, takeOf, returnAnswer, stored, withTcon, withInterrupts, passed, refuse, passedCycle, refuseCycle, refuseTake}
+use Rattle.machine.specs.Cycle.{cycleOf, refused9, cycles, anyRefused9}
+use Rattle.machine.specs.Calls.{resetAnswer, writeAnswer, cycleAnswer, takeAnswer, takeOf, returnAnswer, jumpAnswer, longest, traceAnswer, traceFault, traceRefused9, traceCycles, stored, withTcon, withInterrupts, passed, refuse, passedCycle, refuseCycle, refuseTake}
 use Rattle.interrupts.proofs.Ranges as interrupts
 use Rattle.registers.specs.Ranges.{Ranges, InterruptsOk}
 use Rattle.registers.proofs.Accepted.{ranges-of, accepted-of, reset-accepted51, reset-accepted52}
 use Rattle.registers.proofs.Written.{write-accepted}
 use Rattle.cycle.proofs.Keeps.{cycle-accepted}
+use Rattle.jump.proofs.Keeps.{cycles-accepted, trace-accepted}
 
 -- a choice has what both have
 chosen : {A : Type 0} (P : A → Type 0) (b : Bool) (x y : A) → P x → P y → P (cond b x y)
@@ -51,6 +54,22 @@ module _ (d : Device) (a : accepted d ≡ true) where
   unfolding cycleAnswer KeptCycle
   cycle-kept pins =
       chosen KeptCycle (accepted d) _ _ (chosen KeptCycle (pinsOk pins) _ _ (chosen KeptCycle (refused9 pins d) _ _ a (cycle-accepted pins d a)) a) a
+
+  pub jump-kept : (pins n : ℕ) → accepted (jumpAnswer d pins n .device) ≡ true
+  unfolding jumpAnswer Kept
+  jump-kept pins n =
+      chosen Kept (accepted d) _ _
+      (chosen Kept (pinsOk pins) _ _
+      (chosen Kept (leb n longest) _ _ (chosen Kept (anyRefused9 n pins d) _ _ a (cycles-accepted n pins d a)) a)
+      a)
+      a
+
+  pub trace-kept : (es : List ℕ) → accepted (traceAnswer d es .device) ≡ true
+  unfolding traceAnswer Kept
+  trace-kept es =
+      chosen Kept (accepted d) _ _
+      (chosen Kept (eqb (traceFault es) 0) _ _ (chosen Kept (traceRefused9 es d) _ _ a (trace-accepted es d a)) a)
+      a
 
   of-interrupts : interrupts.Ranges (d .interrupts)
   of-interrupts =

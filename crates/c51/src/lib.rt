@@ -4,6 +4,7 @@ ghost use Rattle.machine.specs.Calls as Machine;
 use machine::Answer;
 use machine::CycleAnswer;
 use machine::Device;
+use machine::LookAnswer;
 use machine::OfferAnswer;
 use machine::ReadAnswer;
 use machine::TakeAnswer;
@@ -161,5 +162,78 @@ pub fn reti(d: Device) -> Answer
         }
     } else {
         Answer { code: 1, device: d }
+    }
+}
+
+// The most cycles of a jump and of a look ahead.
+const LONGEST: u64 = 1 << 40;
+
+// A jump of n cycles with one pin byte: 1, 4, 5, 9.
+pub fn jump(d: Device, pins: u8, n: u64) -> Answer
+    ensures { λ r. ⌜ r ≡ Machine.jumpAnswer d pins n ⌝ }
+{
+    if registers::accepts(d) {
+        if pins < 128 {
+            if n <= LONGEST {
+                let run = jump::advance(d, pins, n);
+                if run.twice {
+                    Answer { code: 9, device: d }
+                } else {
+                    let e = run.device;
+                    Answer { code: 0, device: e }
+                }
+            } else {
+                Answer { code: 5, device: d }
+            }
+        } else {
+            Answer { code: 4, device: d }
+        }
+    } else {
+        Answer { code: 1, device: d }
+    }
+}
+
+// A trace run, each entry a pin byte on top and cycles in the low 24 bits: 1, then 5, then its first bad entry, 4 before 8; then 9.
+pub fn trace(d: Device, entries: &[u32]) -> Answer
+    ensures { λ r. ⌜ r ≡ Machine.traceAnswer d (now (entries .entry)) ⌝ }
+{
+    if registers::accepts(d) {
+        let bad = jump::trace_fault(entries);
+        if bad == 0 {
+            let ran = jump::run_entries(d, entries);
+            if ran.twice {
+                Answer { code: 9, device: d }
+            } else {
+                let e = ran.device;
+                Answer { code: 0, device: e }
+            }
+        } else {
+            Answer {
+                code: bad,
+                device: d,
+            }
+        }
+    } else {
+        Answer { code: 1, device: d }
+    }
+}
+
+// A look ahead over n cycles with one pin byte, the first in which a flag rises: 1, 4, 5. No cycle of an accepted device meets 9,
+// so that it may stop there.
+pub fn look(d: Device, pins: u8, n: u64) -> LookAnswer
+    ensures { λ r. ⌜ r ≡ Machine.lookAnswer d pins n ⌝ }
+{
+    if registers::accepts(d) {
+        if pins < 128 {
+            if n <= LONGEST {
+                jump::first_rise(d, pins, n)
+            } else {
+                LookAnswer::Refused(5)
+            }
+        } else {
+            LookAnswer::Refused(4)
+        }
+    } else {
+        LookAnswer::Refused(1)
     }
 }

@@ -1,0 +1,58 @@
+-- A refused call leaves the record as it was, and every other number of its answer is 0: by cases of the refusals.
+use mathlib.Core.Path.{_≡_, refl}
+use mathlib.Core.Bool.{Bool, true, false, cond}
+use Prim.Native.Nat.{ℕ}
+use lib.Dec.{leb}
+use Rattle.machine.specs.declared.Device.{Device}
+use Rattle.machine.specs.declared.Answer.{Answer}
+use Rattle.machine.specs.declared.CycleAnswer.{CycleAnswer}
+use Rattle.machine.specs.declared.TakeAnswer.{TakeAnswer}
+use Rattle.machine.specs.Registers.{lacks}
+use Rattle.machine.specs.Record.{accepted, pinsOk}
+use Rattle.machine.specs.Interrupts.{Source, none, source, offered}
+use Rattle.machine.specs.Cycle.{refused9, anyRefused9}
+use Rattle.machine.specs.Calls.{writeAnswer, cycleAnswer, jumpAnswer, takeAnswer, takeOf, longest}
+
+-- a choice has what both have
+chosen : {A : Type 0} (P : A → Type 0) (b : Bool) (x y : A) → P x → P y → P (cond b x y)
+chosen P true x y p q = p
+chosen P false x y p q = q
+
+module _ (d : Device) where
+  -- refused, or all is well
+  abbrev Same : Answer → Type 0
+  Same a = (a .code ≡ 0 → ⊥) → a .device ≡ d
+
+  abbrev SameCycle : CycleAnswer → Type 0
+  SameCycle a = (a .code ≡ 0 → ⊥) → (a .line ≡ 0) × (a .device ≡ d)
+
+  abbrev SameTake : TakeAnswer → Type 0
+  SameTake a = (a .code ≡ 0 → ⊥) → (a .vector ≡ 0) × (a .device ≡ d)
+
+  pub write-refused : (address value : ℕ) → Same (writeAnswer d address value)
+  unfolding writeAnswer
+  write-refused address value =
+      chosen Same (accepted d) _ _ (chosen Same (lacks (d .kind) address) _ _ (λ _. refl) (λ n. absurd (n refl))) (λ _. refl)
+
+  pub cycle-refused : (pins : ℕ) → SameCycle (cycleAnswer d pins)
+  unfolding cycleAnswer
+  cycle-refused pins =
+      chosen SameCycle (accepted d) _ _
+      (chosen SameCycle (pinsOk pins) _ _ (chosen SameCycle (refused9 pins d) _ _ (λ _. (refl, refl)) (λ n. absurd (n refl))) (λ _. (refl, refl)))
+      (λ _. (refl, refl))
+
+  pub jump-refused : (pins n : ℕ) → Same (jumpAnswer d pins n)
+  unfolding jumpAnswer
+  jump-refused pins n =
+      chosen Same (accepted d) _ _
+      (chosen Same (pinsOk pins) _ _ (chosen Same (leb n longest) _ _ (chosen Same (anyRefused9 n pins d) _ _ (λ _. refl) (λ n. absurd (n refl))) (λ _. refl)) (λ _. refl))
+      (λ _. refl)
+
+  taken : (s : Source) → SameTake (takeOf d s)
+  unfolding takeOf
+  taken none = λ _. (refl, refl)
+  taken (source k) = λ n. absurd (n refl)
+
+  pub take-refused : SameTake (takeAnswer d)
+  unfolding takeAnswer
+  take-refused = chosen SameTake (accepted d) _ _ (taken (offered (d .interrupts))) (λ _. (refl, refl))

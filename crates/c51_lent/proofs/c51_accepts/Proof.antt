@@ -1,0 +1,20 @@
+-- `c51_lent::c51_accepts` answers 1 where the record check passes and 0 where it does not: by cases of the check.
+use mathlib.Core.Path.{sym, _∙_}
+use borrow.Author.Needs.{needs}
+use Rattle.c51_lent.specs.Answers.{acceptsAnswer}
+use Rattle.c51_lent.proofs.c51_accepts.Statement.{statement}
+use Rattle.c51_lent.proofs.c51_accepts.Tie as tie
+
+accepts-requires : tie.Need-accepts-requires
+accepts-requires c κs = search needs
+
+returns : tie.Need-returns
+unfolding acceptsAnswer
+returns c = simp (sym (c .before .accepts .ensures) ∙ c .if1 .taken)
+
+returns-2 : tie.Need-returns-2
+unfolding acceptsAnswer
+returns-2 c = simp (sym (c .before .accepts .ensures) ∙ c .if1 .left)
+
+pub c51-accepts-spec : {M : Type 1} → statement M
+c51-accepts-spec = tie.close (tie.spec accepts-requires returns returns-2)

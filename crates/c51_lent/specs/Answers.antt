@@ -1,0 +1,45 @@
+-- The answers that are enums, and the record check, as numbers for C: a refused call gives its number and zeros.
+use Prim.Native.Nat.{ℕ}
+use mathlib.Core.Bool.{cond}
+use Rattle.machine.specs.declared.Device.{Device}
+use Rattle.machine.specs.declared.ReadAnswer.{ReadAnswer}
+use Rattle.machine.specs.declared.ReadAnswer.the-variants as Read
+use Rattle.machine.specs.declared.OfferAnswer.{OfferAnswer}
+use Rattle.machine.specs.declared.OfferAnswer.the-variants as Offer
+use Rattle.machine.specs.declared.LookAnswer.{LookAnswer}
+use Rattle.machine.specs.declared.LookAnswer.the-variants as Look
+use Rattle.machine.specs.Record.{accepted}
+use Rattle.machine.specs.Calls.{readAnswer, offerAnswer, lookAnswer}
+use Rattle.c51_lent.specs.declared.ValueAnswer.{ValueAnswer}
+use Rattle.c51_lent.specs.declared.OfferedAnswer.{OfferedAnswer}
+use Rattle.c51_lent.specs.declared.LookedAnswer.{LookedAnswer}
+
+-- Read: the value
+abbrev pub valueOf : ReadAnswer → ValueAnswer
+valueOf (Read.Refused k) = record { code = k; value = 0 }
+valueOf (Read.Value v) = record { code = 0; value = v }
+
+unfoldable pub valueAnswer : Device → ℕ → ValueAnswer
+valueAnswer d address = valueOf (readAnswer d address)
+
+-- Offer: 1 and the vector, or 0 and 0
+abbrev pub offeredOf : OfferAnswer → OfferedAnswer
+offeredOf (Offer.Refused k) = record { code = k; offered = 0; vector = 0 }
+offeredOf (Offer.Vector v) = record { code = 0; offered = 1; vector = v }
+offeredOf Offer.Nothing = record { code = 0; offered = 0; vector = 0 }
+
+unfoldable pub offeredAnswer : Device → OfferedAnswer
+offeredAnswer d = offeredOf (offerAnswer d)
+
+-- Look ahead: 1 and the cycle, or 0 and 0
+abbrev pub lookedOf : LookAnswer → LookedAnswer
+lookedOf (Look.Refused k) = record { code = k; found = 0; at = 0 }
+lookedOf (Look.At n) = record { code = 0; found = 1; at = n }
+lookedOf Look.Nothing = record { code = 0; found = 0; at = 0 }
+
+unfoldable pub lookedAnswer : Device → ℕ → ℕ → LookedAnswer
+lookedAnswer d pins n = lookedOf (lookAnswer d pins n)
+
+-- The record check: 1 where the record is accepted
+unfoldable pub acceptsAnswer : Device → ℕ
+acceptsAnswer d = cond (accepted d) 1 0

@@ -1,0 +1,201 @@
+// The library for C: write, cycle, jump and take over a device record that is lent by reference and altered there, and the other calls over one
+// passed by value. Each is thin over the public call of `c51`; nothing is asked of the record.
+ghost use mathlib.Core.Path.{_≡_};
+ghost use Rattle.machine.specs.Calls as Machine;
+ghost use Rattle.c51_lent.specs.Answers as Numbers;
+use machine::Answer;
+use machine::CycleAnswer;
+use machine::Device;
+
+// A cycle's code and the output line as it leaves it.
+#[repr(C)]
+pub struct LineAnswer {
+    pub code: u8,
+    pub line: u8,
+}
+
+// A take's code and the vector.
+#[repr(C)]
+pub struct VectorAnswer {
+    pub code: u8,
+    pub vector: u8,
+}
+
+// A read's code and the register.
+#[repr(C)]
+pub struct ValueAnswer {
+    pub code: u8,
+    pub value: u8,
+}
+
+// An offer's code, 1 where an interrupt is offered, and its vector.
+#[repr(C)]
+pub struct OfferedAnswer {
+    pub code: u8,
+    pub offered: u8,
+    pub vector: u8,
+}
+
+// A look ahead's code, 1 where a flag rises, and the cycle in which the first does.
+#[repr(C)]
+pub struct LookedAnswer {
+    pub code: u8,
+    pub found: u8,
+    pub at: u64,
+}
+
+// Write a register's implemented bits: 1, 3.
+#[no_mangle]
+pub extern "C" fn c51_write(d: &mut Device, address: u8, value: u8) -> u8
+    ensures { λ r. ⌜ (r ≡ Machine.writeAnswer (now (d .entry)) address value .code) × (now (d .exit) ≡ Machine.writeAnswer (now (d .entry)) address value .device) ⌝ }
+{
+    let written = c51::write(*d, address, value);
+    *d = written.device;
+    written.code
+}
+
+// One machine cycle with a pin byte: 1, 4, 9.
+#[no_mangle]
+pub extern "C" fn c51_cycle(d: &mut Device, pins: u8) -> LineAnswer
+    ensures { λ r. ⌜ (r .code ≡ Machine.cycleAnswer (now (d .entry)) pins .code) × ((r .line ≡ Machine.cycleAnswer (now (d .entry)) pins .line) × (now (d .exit) ≡ Machine.cycleAnswer (now (d .entry)) pins .device)) ⌝ }
+{
+    let cycled = c51::cycle(*d, pins);
+    *d = cycled.device;
+    LineAnswer {
+        code: cycled.code,
+        line: cycled.line,
+    }
+}
+
+// n cycles with one pin byte: 1, 4, 5, 9.
+#[no_mangle]
+pub extern "C" fn c51_jump(d: &mut Device, pins: u8, n: u64) -> u8
+    ensures { λ r. ⌜ (r ≡ Machine.jumpAnswer (now (d .entry)) pins n .code) × (now (d .exit) ≡ Machine.jumpAnswer (now (d .entry)) pins n .device) ⌝ }
+{
+    let jumped = c51::jump(*d, pins, n);
+    *d = jumped.device;
+    jumped.code
+}
+
+// Take what is offered: 1, 6.
+#[no_mangle]
+pub extern "C" fn c51_take(d: &mut Device) -> VectorAnswer
+    ensures { λ r. ⌜ (r .code ≡ Machine.takeAnswer (now (d .entry)) .code) × ((r .vector ≡ Machine.takeAnswer (now (d .entry)) .vector) × (now (d .exit) ≡ Machine.takeAnswer (now (d .entry)) .device)) ⌝ }
+{
+    let taken = c51::take(*d);
+    *d = taken.device;
+    VectorAnswer {
+        code: taken.code,
+        vector: taken.vector,
+    }
+}
+
+// Reset: 2 with a kind other than 51 and 52.
+#[no_mangle]
+pub extern "C" fn c51_reset(kind: u8) -> Answer
+    ensures { λ r. ⌜ r ≡ Machine.resetAnswer kind ⌝ }
+{
+    c51::reset(kind)
+}
+
+// Read a register, for SBUF the received byte: 1, 3.
+#[no_mangle]
+pub extern "C" fn c51_read(d: Device, address: u8) -> ValueAnswer
+    ensures { λ r. ⌜ r ≡ Numbers.valueAnswer d address ⌝ }
+{
+    let a = c51::read(d, address);
+    match a {
+        machine::ReadAnswer::Refused(k) => ValueAnswer { code: k, value: 0 },
+        machine::ReadAnswer::Value(v) => ValueAnswer { code: 0, value: v },
+    }
+}
+
+// The vector offered, or nothing: 1.
+#[no_mangle]
+pub extern "C" fn c51_offer(d: Device) -> OfferedAnswer
+    ensures { λ r. ⌜ r ≡ Numbers.offeredAnswer d ⌝ }
+{
+    let a = c51::offer(d);
+    match a {
+        machine::OfferAnswer::Refused(k) => OfferedAnswer {
+            code: k,
+            offered: 0,
+            vector: 0,
+        },
+        machine::OfferAnswer::Vector(v) => OfferedAnswer {
+            code: 0,
+            offered: 1,
+            vector: v,
+        },
+        machine::OfferAnswer::Nothing => OfferedAnswer {
+            code: 0,
+            offered: 0,
+            vector: 0,
+        },
+    }
+}
+
+// The first of n cycles with one pin byte in which a flag rises, or none: 1, 4, 5, 9.
+#[no_mangle]
+pub extern "C" fn c51_look(d: Device, pins: u8, n: u64) -> LookedAnswer
+    ensures { λ r. ⌜ r ≡ Numbers.lookedAnswer d pins n ⌝ }
+{
+    let a = c51::look(d, pins, n);
+    match a {
+        machine::LookAnswer::Refused(k) => LookedAnswer {
+            code: k,
+            found: 0,
+            at: 0,
+        },
+        machine::LookAnswer::At(n) => LookedAnswer {
+            code: 0,
+            found: 1,
+            at: n,
+        },
+        machine::LookAnswer::Nothing => LookedAnswer {
+            code: 0,
+            found: 0,
+            at: 0,
+        },
+    }
+}
+
+// Return from an interrupt (RETI): 1, 7.
+#[no_mangle]
+pub extern "C" fn c51_return(d: Device) -> Answer
+    ensures { λ r. ⌜ r ≡ Machine.returnAnswer d ⌝ }
+{
+    c51::reti(d)
+}
+
+// A trace run: 1, 5, 4, 8, 9.
+#[no_mangle]
+pub extern "C" fn c51_trace(d: Device, entries: &[u32]) -> Answer
+    ensures { λ r. ⌜ r ≡ Machine.traceAnswer d (now (entries .entry)) ⌝ }
+{
+    c51::trace(d, entries)
+}
+
+// 1 where the record is accepted.
+#[no_mangle]
+pub extern "C" fn c51_accepts(d: Device) -> u8
+    ensures { λ r. ⌜ r ≡ Numbers.acceptsAnswer d ⌝ }
+{
+    if registers::accepts(d) { 1 } else { 0 }
+}
+
+// One machine cycle by value: 1, 4, 9.
+#[no_mangle]
+pub extern "C" fn c51_cycle_value(d: Device, pins: u8) -> CycleAnswer
+    ensures { λ r. ⌜ r ≡ Machine.cycleAnswer d pins ⌝ }
+{
+    c51::cycle(d, pins)
+}
+
+// n cycles with one pin byte, by value: 1, 4, 5, 9.
+#[no_mangle]
+pub extern "C" fn c51_jump_value(d: Device, pins: u8, n: u64) -> Answer
+    ensures { λ r. ⌜ r ≡ Machine.jumpAnswer d pins n ⌝ }
+{
+    c51::jump(d, pins, n)
+}

@@ -1,0 +1,5 @@
+pub mod Keeps
+pub mod Idles
+pub mod Flags
+pub mod Rounds
+pub mod Traces

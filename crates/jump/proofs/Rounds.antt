@@ -1,0 +1,147 @@
+-- The rounds of a jump and of a look ahead: what code makes of a round is one, and what it leaves of the cycles to make; by the laws
+-- of strides and of a cycle.
+use Prim.Native.Nat.{ℕ, zero, suc, _+_, _-_, _≤_, _<_, min}
+use mathlib.Core.Path.{_≡_, refl, sym, ap, _∙_, subst}
+use mathlib.Core.Bool.{Bool, true, false, cond, _||_, or-false}
+use native.Mathlib.Omega.{arith}
+use lib.Dec.{eqb}
+use borrow.Author.Tests.{eq-eqb, ne-eqb}
+use Rattle.machine.specs.declared.Device.{Device}
+use Rattle.machine.specs.declared.LookAnswer.{LookAnswer}
+use Rattle.machine.specs.declared.LookAnswer.the-variants.{At}
+use Rattle.machine.specs.Record.{accepted, pinsOf}
+use Rattle.machine.specs.Cycle.{cycleOf, refused9, cycles, anyRefused9}
+use Rattle.machine.specs.Calls.{flags, anyRises, firstRise}
+use Rattle.cycle.specs.declared.Once.{Once}
+use Rattle.cycle.specs.Once.{onceOf}
+use Rattle.strides.specs.Stride.{room, roomAt, stride, strideAt, strideTimers, stride2, strideSerial}
+use Rattle.strides.proofs.Strides.{Bounded, quiet-cycle, stride-law}
+use Rattle.strides.proofs.Runs.{cycles-one, crossed-on}
+use Rattle.strides.proofs.Rises.{quiet-still, on-here, on-one, on-stride}
+use Rattle.jump.specs.declared.Round.{Round}
+use Rattle.jump.specs.declared.Ran.{Ran}
+use Rattle.jump.specs.Rounds.{usedIn, Crossed, Advanced}
+use Rattle.jump.proofs.Keeps.{bounded, cycles-accepted, none-refused9}
+
+-- the room and the stride, with the pin byte as the kind takes it
+pub room-is : (pins : ℕ) (d : Device) {l n : ℕ} → l ≡ pinsOf (d .kind) pins → n ≡ roomAt l d → n ≡ room pins d
+unfolding room
+room-is pins d e f = f ∙ ap (λ (l : ℕ). roomAt l d) e
+
+pub stride-is : (m pins : ℕ) (d : Device) {l : ℕ} {u : Device} → l ≡ pinsOf (d .kind) pins → u ≡ strideAt m l d → u ≡ stride m pins d
+unfolding stride
+stride-is m pins d e f = f ∙ ap (λ (l : ℕ). strideAt m l d) e
+
+-- one cycle is refused where the cycle is
+one-refused9 : (pins : ℕ) (d : Device) → anyRefused9 1 pins d ≡ refused9 pins d
+unfolding anyRefused9
+one-refused9 pins d = or-false (refused9 pins d)
+
+module _ (pins left : ℕ) (d : Device) where
+  used-busy : room pins d ≡ 0 → usedIn pins left d ≡ 1
+  unfolding usedIn
+  used-busy z = simp (eq-eqb (room pins d) 0 z)
+
+  used-quiet : 1 ≤ room pins d → usedIn pins left d ≡ min (room pins d) left
+  unfolding usedIn
+  used-quiet h = simp (ne-eqb (room pins d) 0 (λ e. omega arith))
+
+  -- no room: a round is the next cycle
+  pub round-busy : {o : Once} → o ≡ onceOf pins d → room pins d ≡ 0
+      → Crossed pins left d (record { twice = o .twice; used = 1; device = o .device })
+  round-busy e z =
+      record {
+        used = sym (used-busy z);
+        reaches = ap (λ (o : Once). o .device) e ∙ sym (cycles-one pins d);
+        refused = ap (λ (o : Once). o .twice) e ∙ sym (one-refused9 pins d);
+      }
+
+  -- room: a round is a stride
+  pub round-quiet : {m : ℕ} {u : Device} → accepted d ≡ true → 1 ≤ room pins d → m ≡ min (room pins d) left → u ≡ stride m pins d
+      → Crossed pins left d (record { twice = false; used = m; device = u })
+  round-quiet {m} a h e f =
+      record {
+        used = e ∙ sym (used-quiet h);
+        reaches = f ∙ sym (stride-law m pins d (bounded d a) (omega arith));
+        refused = sym (none-refused9 m pins d a);
+      }
+
+-- a round of the cycles that are left
+module _ (pins left : ℕ) (d : Device) {r : Round} (c : Crossed pins left d r) (some : 1 ≤ left) where
+  -- it has at least one cycle, and at most those that are left
+  pub round-some : 1 ≤ r .used
+  round-some = go (room pins d) refl
+    where
+      go : (k : ℕ) → room pins d ≡ k → 1 ≤ r .used
+      go zero e = omega (arith, c .used, used-busy pins left d e)
+      go (suc k) e = omega (arith, c .used, used-quiet pins left d (omega arith))
+
+  pub round-within : r .used ≤ left
+  round-within = go (room pins d) refl
+    where
+      go : (k : ℕ) → room pins d ≡ k → r .used ≤ left
+      go zero e = omega (arith, c .used, used-busy pins left d e)
+      go (suc k) e = omega (arith, c .used, used-quiet pins left d (omega arith))
+
+  -- it leaves an accepted device accepted, and is not refused
+  pub round-accepted : accepted d ≡ true → accepted (r .device) ≡ true
+  round-accepted a = ap accepted (c .reaches) ∙ cycles-accepted (r .used) pins d a
+
+  pub round-passes : accepted d ≡ true → r .twice ≡ false
+  round-passes a = c .refused ∙ none-refused9 (r .used) pins d a
+
+  -- the cycles that it leaves end where all of them end
+  pub round-on : {v : Device} → cycles left pins d ≡ v → cycles (left - r .used) pins (r .device) ≡ v
+  round-on i = crossed-on pins d round-within (c .reaches) i
+
+-- a run of cycles from an accepted device: it passes, reaches where the cycles end, and leaves the device accepted
+module _ (n pins : ℕ) (d : Device) {r : Ran} (c : Advanced n pins d r) (a : accepted d ≡ true) where
+  pub run-passes : r .twice ≡ false
+  run-passes = c .refused ∙ none-refused9 n pins d a
+
+  pub run-reaches : r .device ≡ cycles n pins d
+  run-reaches = c .reaches run-passes
+
+  pub run-accepted : accepted (r .device) ≡ true
+  run-accepted = ap accepted run-reaches ∙ cycles-accepted n pins d a
+
+-- no flag rises over a quiet run
+quiet-rises : (m pins : ℕ) (d : Device) → Bounded d → 1 ≤ room pins d → m ≤ room pins d
+    → anyRises (flags d) (flags (cycles m pins d)) ≡ false
+unfolding flags stride strideAt strideTimers stride2 strideSerial
+quiet-rises m pins d b h k =
+    ap (λ (u : Device). anyRises (flags d) (flags u)) (stride-law m pins d b k)
+    ∙ (sym (ap (λ (u : Device). anyRises (flags d) (flags u)) (quiet-cycle pins d b h)) ∙ quiet-still pins d b h)
+
+-- A round of a look ahead, after k of its n cycles
+module _ (k n pins : ℕ) (d : Device) (h : k < n) {r : Round} (c : Crossed pins (n - k) d r) where
+  busy-cycle : room pins d ≡ 0 → r .device ≡ cycleOf pins d
+  busy-cycle z = c .reaches ∙ (ap (λ (m : ℕ). cycles m pins d) (c .used ∙ used-busy pins (n - k) d z) ∙ cycles-one pins d)
+
+  -- a flag rises: it does in the round's one cycle
+  pub look-here : {v : LookAnswer} → accepted d ≡ true → firstRise k (n - k) pins d ≡ v
+      → anyRises (flags d) (flags (r .device)) ≡ true → At (k + r .used) ≡ v
+  look-here {v} a inv e = go (room pins d) refl
+    where
+      go : (m : ℕ) → room pins d ≡ m → At (k + r .used) ≡ v
+      go zero z =
+          ap (λ (m : ℕ). At (k + m)) (c .used ∙ used-busy pins (n - k) d z) ∙ on-here k n pins d inv h (busy-cycle z) e
+      go (suc m) z =
+          let q = used-quiet pins (n - k) d (omega arith) in
+          let s = quiet-rises (r .used) pins d (bounded d a) (omega arith) (omega (arith, c .used)) in
+          let f = ap (λ (u : Device). anyRises (flags d) (flags u)) (c .reaches) in
+          let z : _≡_ {A = ℕ} 0 1 = cc in
+          absurd (omega arith)
+
+  -- no flag rises: the look goes on after the round
+  pub look-on : {v : LookAnswer} → accepted d ≡ true → firstRise k (n - k) pins d ≡ v
+      → anyRises (flags d) (flags (r .device)) ≡ false → firstRise (k + r .used) (n - (k + r .used)) pins (r .device) ≡ v
+  look-on {v} a inv e = go (room pins d) refl
+    where
+      go : (m : ℕ) → room pins d ≡ m → firstRise (k + r .used) (n - (k + r .used)) pins (r .device) ≡ v
+      go zero z =
+          ap (λ (m : ℕ). firstRise (k + m) (n - (k + m)) pins (r .device)) (c .used ∙ used-busy pins (n - k) d z)
+          ∙ on-one k n pins d inv h (busy-cycle z) e
+      go (suc m) z =
+          let q = used-quiet pins (n - k) d (omega arith) in
+          on-stride k n pins d inv (r .used) (bounded d a) (omega (arith, c .used)) (omega (arith, c .used)) (c .reaches)

@@ -1,0 +1,5 @@
+pub mod Replays
+pub mod Spells
+pub mod Looks
+pub mod Demand3
+pub mod Replayed

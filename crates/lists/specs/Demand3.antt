@@ -1,0 +1,136 @@
+-- Demand 3: a whole list of public calls against the plain machine of document 01, and what a look ahead answers.
+-- No promise is written out here: `Learnt` is what the check reads off a function's contract, and what a caller of it learns.
+use Prim.Native.Nat.{ℕ, _-_, _≤_, _<_}
+use mathlib.Core.Path.{_≡_}
+use mathlib.Core.Bool.{Bool, true, false}
+use mathlib.Core.List.{List, [], _∷_}
+use lib.ListN.{length, drop}
+use base.Fml.{Lft}
+use denote.Ref.{RefT, now}
+use Rattle.machine.specs.declared.Device.{Device}
+use Rattle.machine.specs.declared.Answer.{Answer}
+use Rattle.machine.specs.declared.CycleAnswer.{CycleAnswer}
+use Rattle.machine.specs.declared.TakeAnswer.{TakeAnswer}
+use Rattle.machine.specs.declared.ReadAnswer.{ReadAnswer}
+use Rattle.machine.specs.declared.OfferAnswer.{OfferAnswer}
+use Rattle.machine.specs.declared.LookAnswer.{LookAnswer}
+use Rattle.machine.specs.declared.LookAnswer.the-variants as Look
+use Rattle.machine.specs.Cycle.{cycles}
+use Rattle.machine.specs.Calls.{rises}
+use Rattle.machine.specs.Lists.{Call, Reply, Played, Ran, ran, run, machine, played, replyOf, replyOfCycle, replyOfTake, replyOfRead, replyOfOffer, replyOfLook}
+use Rattle.lists.specs.Script.{Script, Outputs, repliesIn, Replayed}
+use Rattle.lists.specs.Spelling.{Each, Fits, Addressable, lentOf, scriptOf, Room, Spells}
+use Rattle.c51.proofs.reset.Reads as reset-reads
+use Rattle.c51.proofs.read.Reads as read-reads
+use Rattle.c51.proofs.write.Reads as write-reads
+use Rattle.c51.proofs.cycle.Reads as cycle-reads
+use Rattle.c51.proofs.jump.Reads as jump-reads
+use Rattle.c51.proofs.trace.Reads as trace-reads
+use Rattle.c51.proofs.look.Reads as look-reads
+use Rattle.c51.proofs.offer.Reads as offer-reads
+use Rattle.c51.proofs.take.Reads as take-reads
+use Rattle.c51.proofs.reti.Reads as return-reads
+
+-- A call on a device: the reply and the device after it, as the public function's contract promises them.
+-- Reads, offers and looks hand back no device: they alter nothing
+pub data Kept : Call → Device → Played → Type 0 where
+  reset : {kind : ℕ} {d : Device} {r : Answer}
+      → reset-reads.Learnt tt (kind, tt) r (kind, tt)
+      → Kept (Call.reset kind) d (played (replyOf r) (r .device))
+  read : {a : ℕ} {d : Device} {r : ReadAnswer}
+      → read-reads.Learnt tt (d, (a, tt)) r (d, (a, tt))
+      → Kept (Call.read a) d (played (replyOfRead r) d)
+  write : {a v : ℕ} {d : Device} {r : Answer}
+      → write-reads.Learnt tt (d, (a, (v, tt))) r (d, (a, (v, tt)))
+      → Kept (Call.write a v) d (played (replyOf r) (r .device))
+  cycle : {pins : ℕ} {d : Device} {r : CycleAnswer}
+      → cycle-reads.Learnt tt (d, (pins, tt)) r (d, (pins, tt))
+      → Kept (Call.cycle pins) d (played (replyOfCycle r) (r .device))
+  jump : {pins n : ℕ} {d : Device} {r : Answer}
+      → jump-reads.Learnt tt (d, (pins, (n, tt))) r (d, (pins, (n, tt)))
+      → Kept (Call.jump pins n) d (played (replyOf r) (r .device))
+  trace : (κ : Lft) (es : RefT (List ℕ)) {d : Device} {r : Answer}
+      → trace-reads.Learnt (κ, tt) (d, (es, tt)) r (d, (es, tt))
+      → Kept (Call.trace (now es)) d (played (replyOf r) (r .device))
+  look : {pins n : ℕ} {d : Device} {r : LookAnswer}
+      → look-reads.Learnt tt (d, (pins, (n, tt))) r (d, (pins, (n, tt)))
+      → Kept (Call.look pins n) d (played (replyOfLook r) d)
+  offer : {d : Device} {r : OfferAnswer}
+      → offer-reads.Learnt tt (d, tt) r (d, tt)
+      → Kept Call.offer d (played (replyOfOffer r) d)
+  take : {d : Device} {r : TakeAnswer}
+      → take-reads.Learnt tt (d, tt) r (d, tt)
+      → Kept Call.take d (played (replyOfTake r) (r .device))
+  return : {d : Device} {r : Answer}
+      → return-reads.Learnt tt (d, tt) r (d, tt)
+      → Kept Call.return d (played (replyOf r) (r .device))
+
+-- A list of calls, each on the device as the one before left it: all replies, and the device at the end
+pub data Chained : List Call → Device → List Reply → Device → Type 0 where
+  nothing : {d : Device} → Chained [] d [] d
+  then : {c : Call} {cs : List Call} {d : Device} {p : Played} {rs : List Reply} {last : Device}
+      → Kept c d p → Chained cs (p .device) rs last → Chained (c ∷ cs) d (p .reply ∷ rs) last
+
+-- No public call asks anything of its caller
+pub record AsksNothing : Type 0 where
+  pub resets : (kind : ℕ) → reset-reads.Asked tt (kind, tt)
+  pub reads : (d : Device) (a : ℕ) → read-reads.Asked tt (d, (a, tt))
+  pub writes : (d : Device) (a v : ℕ) → write-reads.Asked tt (d, (a, (v, tt)))
+  pub cycles : (d : Device) (pins : ℕ) → cycle-reads.Asked tt (d, (pins, tt))
+  pub jumps : (d : Device) (pins n : ℕ) → jump-reads.Asked tt (d, (pins, (n, tt)))
+  pub traces : (κ : Lft) (d : Device) (es : RefT (List ℕ)) → trace-reads.Asked (κ, tt) (d, (es, tt))
+  pub looks : (d : Device) (pins n : ℕ) → look-reads.Asked tt (d, (pins, (n, tt)))
+  pub offers : (d : Device) → offer-reads.Asked tt (d, tt)
+  pub takes : (d : Device) → take-reads.Asked tt (d, tt)
+  pub returns : (d : Device) → return-reads.Asked tt (d, tt)
+
+-- A flag rises in cycle k, counted from 1, of those that a pin byte makes from d
+abbrev pub risesIn : ℕ → ℕ → Device → Bool
+risesIn k pins d = rises pins (cycles (k - 1) pins d)
+
+-- cycle k is the first of the n in which a flag rises
+pub record First (pins n : ℕ) (d : Device) (k : ℕ) : Type 0 where
+  pub some : 1 ≤ k
+  pub within : k ≤ n
+  pub here : risesIn k pins d ≡ true
+  pub before : (j : ℕ) → 1 ≤ j → j < k → risesIn j pins d ≡ false
+
+-- no flag rises in any of the n
+abbrev pub Never : ℕ → ℕ → Device → Type 0
+Never pins n d = (k : ℕ) → 1 ≤ k → k ≤ n → risesIn k pins d ≡ false
+
+-- The answer k exactly when cycle k is the first in which a flag rises; none exactly when no flag rises in any of the n
+pub record Looks (pins n : ℕ) (d : Device) (answer : LookAnswer) : Type 0 where
+  pub names : (k : ℕ) → answer ≡ Look.At k → First pins n d k
+  pub named : (k : ℕ) → First pins n d k → answer ≡ Look.At k
+  pub none-said : answer ≡ Look.Nothing → Never pins n d
+  pub none-rises : Never pins n d → answer ≡ Look.Nothing
+
+-- What a replay leaves: the machine's state, its replies as they read back from the outputs, and what lies past them as it was
+pub record Same (m : Ran) (n : ℕ) (last : Device) (before after : Outputs) : Type 0 where
+  pub state : last ≡ m .device
+  pub replies : repliesIn n after ≡ m .replies
+  pub codes-past : drop n (after .codes) ≡ drop n (before .codes)
+  pub values-past : drop n (after .values) ≡ drop n (before .values)
+  pub nones-past : drop n (after .nones) ≡ drop n (before .nones)
+
+-- Demand 3
+pub record Demand3 : Type 0 where
+  -- any list of calls from any device: every reply, and the device at the end, are the plain machine's
+  pub from-any : {cs : List Call} {d : Device} {rs : List Reply} {last : Device} → Chained cs d rs last → ran rs last ≡ run cs d
+  -- the same from what reset gives the kind, 51 or 52: the machine's only inputs are the kind and the list
+  pub from-reset : (kind : ℕ) {a : Answer} {cs : List Call} {rs : List Reply} {last : Device}
+      → reset-reads.Learnt tt (kind, tt) a (kind, tt) → Chained cs (a .device) rs last → ran rs last ≡ machine kind cs
+  -- every list makes such a chain, refused calls included
+  pub every-list : (cs : List Call) (d : Device) → Chained cs d (run cs d .replies) (run cs d .device)
+  pub asks-nothing : AsksNothing
+  -- what a look that passes answers
+  pub looks : (d : Device) (pins n : ℕ) (answer : LookAnswer)
+      → look-reads.Learnt tt (d, (pins, (n, tt))) answer (d, (pins, (n, tt))) → replyOfLook answer .code ≡ 0
+      → Looks pins n d answer
+  -- every list whose arguments fit their types is spelled by a script, where its slices can be addressed
+  pub spelled : (cs : List Call) → Each Fits cs → Addressable 8 (length cs) → Addressable 4 (length (lentOf cs))
+      → Spells (scriptOf cs) cs
+  -- what `replay` is promised to leave, of a script that spells a list
+  pub replayed : (cs : List Call) (s : Script) (d last : Device) (before after : Outputs) → Spells s cs → Room (length cs) before
+      → Replayed d s before last after → Same (run cs d) (length cs) last before after

@@ -1,0 +1,3 @@
+pub mod Script
+pub mod Spelling
+pub mod Demand3

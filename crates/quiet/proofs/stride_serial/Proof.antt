@@ -1,0 +1,30 @@
+-- `stride_serial` is the definition: the send counter takes the ticks modulo 16.
+use Prim.Native.Nat.{_%_}
+use Rattle.laws.proofs.Bits.{bits, low4}
+use Rattle.strides.specs.Stride.{strideSerial, sampled}
+use Rattle.quiet.proofs.Laws.{ticks-below, ticks-laps}
+use borrow.Author.Needs.{needs}
+use native.Mathlib.Omega.{arith}
+use Rattle.quiet.proofs.stride_serial.Statement.{statement}
+use Rattle.quiet.proofs.stride_serial.Tie as tie
+
+ticks2-requires : tie.Need-ticks2-requires
+ticks2-requires c κs = search needs
+
+add-counter : tie.Need-add-counter
+add-counter c =
+    let a = c .before .before .args in
+    let t = ticks-below (a .m % 16) (a .smod) (a .s .scon) (omega arith) in
+    omega (arith, low4 (a .s .send .counter))
+
+picked-requires : tie.Need-picked-requires
+picked-requires c κs = search needs
+
+returns : tie.Need-returns
+unfolding strideSerial sampled
+returns c =
+    let a = c .before .before .before .before .before .before .args in
+    simp (bits, c .before .before .picked .ensures, c .before .before .before .before .ticks2 .ensures, ticks-laps (a .m) (a .smod) (a .s .scon) (a .s .send .counter))
+
+pub stride-serial-spec : {M : Type 1} → statement M
+stride-serial-spec = tie.close (tie.spec ticks2-requires add-counter picked-requires returns)

@@ -1,0 +1,143 @@
+-- A settled device in which Timer 1 alone counts, in mode 2, and its overflow raises no flag: all that happens is its reload,
+-- which may be a tick of a serial port at rest.
+use Prim.Native.Nat.{ℕ, zero, suc, _+_, _-_, _%_, _^_, _≤_, min}
+use mathlib.Core.Path.{_≡_}
+use mathlib.Core.Bool.{Bool, cond, _&&_, _||_, not}
+use lib.Dec.{eqb}
+use Rattle.machine.specs.declared.Timers.{Timers}
+use Rattle.machine.specs.declared.Serial.{Serial}
+use Rattle.machine.specs.declared.Device.{Device}
+use Rattle.machine.specs.Bits.{bit}
+use Rattle.machine.specs.Registers.{RXD, SMOD, TF1, TR2, RCLK, TCLK}
+use Rattle.machine.specs.Record.{serialMode}
+use Rattle.machine.specs.Timers.{mode0, mode1, counts0, counts1, countsHigh0}
+use Rattle.machine.specs.Serial.{halfAfter, counterNext, withSample}
+use Rattle.serial.specs.Rest.{startWaits}
+use Rattle.strides.specs.Stride.{settledAt}
+use Rattle.reload.specs.declared.Clocking.{Clocking}
+use Rattle.reload.specs.declared.Idling.{Idling}
+use Rattle.reload.specs.declared.IdleRound.{IdleRound}
+
+-- Here l is the pin byte as the kind takes it.
+
+-- Timer 1 alone counts, in mode 2; its overflow raises no flag where TF1 is set, or belongs to Timer 0 in mode 3
+unfoldable pub timer1Alone : ℕ → Timers → Bool
+timer1Alone l t =
+    ((counts1 t l && eqb (mode1 t) 2) && (eqb (bit TF1 (t .tcon)) 1 || eqb (mode0 t) 3))
+    && not (counts0 t l || countsHigh0 t)
+
+-- no ticks but those of overflows, and none of them finds a start bit
+unfoldable pub lineRests : ℕ → Serial → Bool
+lineRests rxd s = not (eqb (serialMode (s .scon)) 2) && not (startWaits rxd s)
+
+-- Timer 1's reload is all that happens, Timer 2 not running
+unfoldable pub reloadOnly : ℕ → Device → Bool
+reloadOnly l d =
+    (timer1Alone l (d .timers) && eqb (bit TR2 (d .timer2 .t2con)) 0) && lineRests (bit RXD l) (d .serial)
+
+-- in a settled device
+unfoldable pub idlesAt : ℕ → Device → Bool
+idlesAt l d = reloadOnly l d && settledAt l d
+
+-- The reload
+
+-- Timer 1's overflows clock a direction: in modes 1 and 3 without its clock bit
+unfoldable pub clocks : ℕ → ℕ → Bool
+clocks scon clock = not (eqb (serialMode scon) 0) && not (eqb clock 1)
+
+-- what a reload goes by, and what it changes
+unfoldable pub clockingOf : ℕ → Device → Clocking
+clockingOf l d =
+    record {
+      th1 = d .timers .th1;
+      smod = bit SMOD (d .pcon);
+      rxd = bit RXD l;
+      sends = clocks (d .serial .scon) (bit TCLK (d .timer2 .t2con));
+      receives = clocks (d .serial .scon) (bit RCLK (d .timer2 .t2con));
+    }
+
+unfoldable pub idlingOf : Device → Idling
+idlingOf d =
+    record {
+      tl1 = d .timers .tl1;
+      half = d .serial .half;
+      counter = d .serial .send .counter;
+      sample = d .serial .receive .sample;
+    }
+
+-- the overflow is a tick with SMOD = 1, or with half going from 1 to 0
+unfoldable pub ticks : ℕ → ℕ → Bool
+ticks smod half = eqb smod 1 || eqb half 1
+
+-- TL1 takes TH1; a tick adds 1 to the send counter and takes RXD into the last line sample
+unfoldable pub reloaded : Clocking → Idling → Idling
+reloaded k x =
+    let tick = ticks (k .smod) (x .half) in
+    record {
+      tl1 = k .th1;
+      half = halfAfter (k .smod) (x .half) 1;
+      counter = cond (k .sends && tick) (counterNext (x .counter)) (x .counter);
+      sample = cond (k .receives && tick) (k .rxd) (x .sample);
+    }
+
+-- the device with another cycle number and with these
+unfoldable pub putIdling : ℕ → Idling → Device → Device
+putIdling n x d =
+    let t = d .timers in
+    let s = d .serial in
+    record {
+      kind = d .kind;
+      pcon = d .pcon;
+      timers =
+          record {
+            tcon = t .tcon;
+            tmod = t .tmod;
+            tl0 = t .tl0;
+            tl1 = x .tl1;
+            th0 = t .th0;
+            th1 = t .th1;
+            due0 = t .due0;
+            due1 = t .due1;
+          };
+      timer2 = d .timer2;
+      serial =
+          record {
+            scon = s .scon;
+            send = record { position = s .send .position; value = s .send .value; counter = x .counter };
+            receive = withSample (x .sample) (s .receive);
+            half = x .half;
+            received = s .received;
+          };
+      interrupts = d .interrupts;
+      levels = d .levels;
+      cycle = n;
+    }
+
+-- the device after the cycle
+unfoldable pub reloadAt : ℕ → Device → Device
+reloadAt l d = putIdling ((d .cycle + 1) % 2 ^ 64) (reloaded (clockingOf l d) (idlingOf d)) d
+
+-- Cycles in a row
+
+-- m counts of TL1
+unfoldable pub raised : ℕ → Idling → Idling
+raised m x = record { tl1 = x .tl1 + m; half = x .half; counter = x .counter; sample = x .sample }
+
+-- a cycle is a reload or a count, and n cycles in turn
+unfoldable pub idleCycle : Clocking → Idling → Idling
+idleCycle k x = cond (eqb (x .tl1) 255) (reloaded k x) (raised 1 x)
+
+unfoldable pub idleCycles : ℕ → Clocking → Idling → Idling
+idleCycles zero k x = x
+idleCycles (suc n) k x = idleCycles n k (idleCycle k x)
+
+-- the device after n cycles
+unfoldable pub idleAt : ℕ → ℕ → Device → Device
+idleAt n l d = putIdling ((d .cycle + n) % 2 ^ 64) (idleCycles n (clockingOf l d) (idlingOf d)) d
+
+-- a round has just these cycles, the reload or the counts before it, and ends where they end
+pub record Rounded (k : Clocking) (x : Idling) (left : ℕ) (r : IdleRound) : Type 0 where
+  pub used : r .used ≡ cond (eqb (x .tl1) 255) 1 (min (255 - x .tl1) left)
+  pub moves : 1 ≤ r .used
+  pub most : r .used ≤ left
+  pub reaches : r .idling ≡ idleCycles (r .used) k x

@@ -1,0 +1,182 @@
+// Timer 1 alone counts in a settled device, in mode 2, and its overflow raises no flag: whether it is so, one reload, and n cycles by rounds.
+// `l` is the pin byte as the kind takes it.
+ghost use mathlib.Core.Path.{_≡_};
+ghost use Prim.Native.Nat.{_≤_, min};
+ghost use Rattle.reload.specs.Reload as Reload;
+use laws::picked;
+use machine::Device;
+use machine::Serial;
+use machine::Timers;
+
+// Timer 1 alone counts, in mode 2, and its overflow raises no flag.
+fn timer1_alone(l: u8, t: Timers) -> bool
+    ensures { λ r. ⌜ r ≡ Reload.timer1Alone l t ⌝ }
+{
+    let one = timers::counts1(t, l) & (((t.tmod >> 4) & 3) == 2);
+    let set = (((t.tcon >> 7) & 1) == 1) | ((t.tmod & 3) == 3);
+    (one & set) & !(timers::counts0(t, l) | timers::counts_high0(t))
+}
+
+// No ticks but those of overflows, and none of them finds a start bit.
+fn line_rests(rxd: u8, s: Serial) -> bool
+    ensures { λ r. ⌜ r ≡ Reload.lineRests rxd s ⌝ }
+{
+    let waits = (((s.scon >> 4) & 1) == 1) & ((s.receive.sample == 1) & (rxd == 0));
+    !(((s.scon >> 6) & 3) == 2) & !waits
+}
+
+// Timer 1's reload is all that happens, Timer 2 not running.
+fn reload_only(d: Device, l: u8) -> bool
+    ensures { λ r. ⌜ r ≡ Reload.reloadOnly l d ⌝ }
+{
+    let t = d.timers;
+    let s = d.serial;
+    let stops = ((d.timer2.t2con >> 2) & 1) == 0;
+    (timer1_alone(l, t) & stops) & line_rests(l & 1, s)
+}
+
+// The device is settled, and Timer 1's reload is all that happens.
+// With TL1 at 0 such a device has room, and one that is not settled has none.
+pub fn idles(d: Device, l: u8) -> bool
+    ensures { λ r. ⌜ r ≡ Reload.idlesAt l d ⌝ }
+{
+    if !reload_only(d, l) {
+        return false;
+    }
+    let mut e = d;
+    e.timers.tl1 = 0;
+    !(quiet::room(e, l) == 0)
+}
+
+// What a reload goes by: TH1, SMOD, RXD, and whether Timer 1 clocks the sender and the receiver.
+pub struct Clocking {
+    pub th1: u8,
+    pub smod: u8,
+    pub rxd: u8,
+    pub sends: bool,
+    pub receives: bool,
+}
+
+// What it changes: TL1, half, the send counter and the last line sample.
+pub struct Idling {
+    pub tl1: u8,
+    pub half: u8,
+    pub counter: u8,
+    pub sample: u8,
+}
+
+// Timer 1's overflows clock a direction, whose clock bit is handed in.
+fn clocks(scon: u8, clock: u8) -> bool
+    ensures { λ r. ⌜ r ≡ Reload.clocks scon clock ⌝ }
+{
+    !(((scon >> 6) & 3) == 0) & !(clock == 1)
+}
+
+fn clocking_of(d: Device, l: u8) -> Clocking
+    ensures { λ r. ⌜ r ≡ Reload.clockingOf l d ⌝ }
+{
+    let t2con = d.timer2.t2con;
+    let scon = d.serial.scon;
+    let sends = clocks(scon, (t2con >> 4) & 1);
+    let receives = clocks(scon, (t2con >> 5) & 1);
+    Clocking {
+        th1: d.timers.th1,
+        smod: (d.pcon >> 7) & 1,
+        rxd: l & 1,
+        sends: sends,
+        receives: receives,
+    }
+}
+
+fn idling_of(d: Device) -> Idling
+    ensures { λ r. ⌜ r ≡ Reload.idlingOf d ⌝ }
+{
+    Idling {
+        tl1: d.timers.tl1,
+        half: d.serial.half,
+        counter: d.serial.send.counter,
+        sample: d.serial.receive.sample,
+    }
+}
+
+// The reload: half flips with SMOD = 0, a tick adds 1 to the send counter and takes RXD into the last line sample.
+fn reloaded(k: Clocking, x: Idling) -> Idling
+    ensures { λ r. ⌜ r ≡ Reload.reloaded k x ⌝ }
+{
+    let tick = (k.smod == 1) | (x.half == 1);
+    let flipped = std::num::wrapping_add_u8(x.half, 1) & 1;
+    let next = std::num::wrapping_add_u8(x.counter, 1) & 15;
+    let half = picked(k.smod == 1, x.half, flipped);
+    let counter = picked(k.sends & tick, next, x.counter);
+    let sample = picked(k.receives & tick, k.rxd, x.sample);
+    Idling {
+        tl1: k.th1,
+        half: half,
+        counter: counter,
+        sample: sample,
+    }
+}
+
+// The device with another cycle number and with these.
+fn put_idling(n: u64, x: Idling, d: Device) -> Device
+    ensures { λ r. ⌜ r ≡ Reload.putIdling n x d ⌝ }
+{
+    let mut e = d;
+    e.timers.tl1 = x.tl1;
+    e.serial.half = x.half;
+    e.serial.send.counter = x.counter;
+    e.serial.receive.sample = x.sample;
+    e.cycle = n;
+    e
+}
+
+// A round passes so many cycles.
+pub struct IdleRound {
+    pub used: u64,
+    pub idling: Idling,
+}
+
+// The smaller of two numbers of cycles.
+fn least(a: u64, b: u64) -> u64
+    ensures { λ r. ⌜ r ≡ min a b ⌝ }
+{
+    if a < b { a } else { b }
+}
+
+// One round of the cycles that are left: the reload, or the counts of TL1 before it.
+fn idle_round(k: Clocking, x: Idling, left: u64) -> IdleRound
+    requires { ⌜ 1 ≤ left ⌝ }
+    ensures { λ r. ⌜ Reload.Rounded k x left r ⌝ }
+{
+    let tl1 = x.tl1;
+    if tl1 == 255 {
+        IdleRound {
+            used: 1,
+            idling: reloaded(k, x),
+        }
+    } else {
+        let used = least(255 - (tl1 as u64), left);
+        let up = tl1 + (used as u8);
+        let mut y = x;
+        y.tl1 = up;
+        IdleRound {
+            used: used,
+            idling: y,
+        }
+    }
+}
+
+// The device after n cycles in which Timer 1's reload is all that happens, by rounds.
+pub fn idle(d: Device, l: u8, n: u64) -> Device
+    ensures { λ r. ⌜ r ≡ Reload.idleAt n l d ⌝ }
+{
+    let k = clocking_of(d, l);
+    let mut x = idling_of(d);
+    let mut left = n;
+    while 0 < left {
+        let r = idle_round(k, x, left);
+        x = r.idling;
+        left -= r.used;
+    }
+    put_idling(std::num::wrapping_add_u64(d.cycle, n), x, d)
+}

@@ -1,0 +1,54 @@
+-- Each case of the answer is its reply's text.
+use mathlib.Core.Path.{refl, sym}
+use Rattle.machine.specs.declared.ReadAnswer.{ReadAnswer}
+use Rattle.machine.specs.Lists.{replyOfRead}
+use Rattle.replay.specs.Replies.{outcome, replyText}
+use Rattle.replay.proofs.Said.{said}
+use borrow.Author.Needs.{needs}
+use Rattle.replay.proofs.say_read.Statement.{statement}
+use Rattle.replay.proofs.say_read.Tie as tie
+
+enum-known-a : tie.Need-enum-known-a
+enum-known-a c = search needs
+
+put-answer-requires : tie.Need-put-answer-requires
+put-answer-requires c κs = search needs
+
+enum-known-a-2 : tie.Need-enum-known-a-2
+enum-known-a-2 c = search needs
+
+cast-put-answer : tie.Need-cast-put-answer
+cast-put-answer c = search needs
+
+put-answer-requires-2 : tie.Need-put-answer-requires-2
+put-answer-requires-2 c κs = search needs
+
+same-length : tie.Need-same-length
+same-length c = search needs
+
+returns : tie.Need-returns
+returns c = let w = c .before .before in
+    let m = w .before .before .before in
+    said (λ (x : ReadAnswer). outcome (replyText (replyOfRead x)) (m .before .before .before .args .device)) (sym (m .a .given .1)) (record { device = refl; text = w .put-answer .ensures })
+
+same-length-2 : tie.Need-same-length-2
+same-length-2 c = search needs
+
+returns-2 : tie.Need-returns-2
+returns-2 c = let w = c .before .before in
+    let m = w .before .before .before in
+    said (λ (x : ReadAnswer). outcome (replyText (replyOfRead x)) (m .before .before .before .args .device)) (sym (m .a2 .given .1)) (record { device = refl; text = w .put-answer2 .ensures })
+
+pub say-read-spec : {M : Type 1} → statement M
+say-read-spec =
+    tie.close
+    (tie.spec
+    enum-known-a
+    put-answer-requires
+    enum-known-a-2
+    cast-put-answer
+    put-answer-requires-2
+    same-length
+    returns
+    same-length-2
+    returns-2)

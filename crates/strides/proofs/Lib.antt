@@ -1,0 +1,14 @@
+pub mod Bools
+pub mod Records
+pub mod Pairs
+pub mod Timers
+pub mod Timer2
+pub mod Serial
+pub mod Settles
+pub mod Strides
+pub mod Overflows
+pub mod Exact
+pub mod Runs
+pub mod Rises
+pub mod Meaning
+pub mod Coded

@@ -1,0 +1,188 @@
+-- The quiet run of cycles from a device on, with one pin byte: how long it is, and the device after m of its cycles.
+use Prim.Native.Nat.{ℕ, _+_, _-_, _*_, _/_, _%_, _^_, min}
+use mathlib.Core.Bool.{Bool, cond, _&&_, _||_, not}
+use lib.Dec.{eqb}
+use Rattle.machine.specs.declared.Timers.{Timers}
+use Rattle.machine.specs.declared.Timer2.{Timer2}
+use Rattle.machine.specs.declared.Serial.{Serial}
+use Rattle.machine.specs.declared.Interrupts.{Interrupts}
+use Rattle.machine.specs.declared.Device.{Device}
+use Rattle.machine.specs.declared.Count.{Count}
+use Rattle.machine.specs.Bits.{bit}
+use Rattle.machine.specs.Registers.{RXD, INT0, INT1, IT0, IT1, IE0, IE1, SMOD, REN, TR2, C/T2}
+use Rattle.machine.specs.Record.{serialMode, pinsOf, levelsOf}
+use Rattle.machine.specs.Counting.{pair13, pair16, hold}
+use Rattle.machine.specs.Timers.{mode0, mode1, counts0, counts1, countsHigh0}
+use Rattle.machine.specs.Timer2.{count2, withCount2, baudRate}
+use Rattle.machine.specs.Serial.{withSample}
+use Rattle.machine.specs.Interrupts.{seenOf}
+use Rattle.machine.specs.Calls.{longest}
+use Rattle.strides.specs.Busy.{same}
+
+-- Here l is the pin byte as the kind takes it.
+
+-- A device is settled if a cycle without overflows finds nothing to do
+
+-- IEi of a level-triggered input is 1 - L
+abbrev pub levelSettled : ℕ → ℕ → ℕ → ℕ → Bool
+levelSettled it ie level tcon = eqb (bit it tcon) 1 || eqb (bit ie tcon) (1 - level)
+
+-- Timers 0 and 1, and step 6
+unfoldable pub timersSettled : ℕ → Timers → Bool
+timersSettled l t =
+    (eqb (t .due0) 0 && eqb (t .due1) 0)
+    && (levelSettled IT0 IE0 (bit INT0 l) (t .tcon) && levelSettled IT1 IE1 (bit INT1 l) (t .tcon))
+
+-- a start bit that the next cycle finds: serial mode 2 ticks in every cycle
+unfoldable pub startWaits : ℕ → Serial → Bool
+startWaits rxd s =
+    (eqb (serialMode (s .scon)) 2 && eqb (bit REN (s .scon)) 1) && (eqb (s .receive .sample) 1 && eqb rxd 0)
+
+-- both positions rest
+unfoldable pub serialSettled : ℕ → Serial → Bool
+serialSettled rxd s = (eqb (s .send .position) 0 && eqb (s .receive .position) 0) && not (startWaits rxd s)
+
+-- seen and polled are the flags
+unfoldable pub interruptsSettled : ℕ → Interrupts → Bool
+interruptsSettled now i = eqb (i .seen) now && eqb (i .polled) now
+
+-- the saved levels are the pins' too
+unfoldable pub settledAt : ℕ → Device → Bool
+settledAt l d =
+    (same (d .levels) (levelsOf l) && timersSettled l (d .timers))
+    && ((eqb (d .timer2 .due2) 0 && serialSettled (bit RXD l) (d .serial))
+    && interruptsSettled (seenOf (d .timers .tcon) (d .serial .scon) (d .timer2 .t2con)) (d .interrupts))
+
+-- The room of a unit that counts: its cycles before the one in which it overflows; where it does not count, any jump's
+
+abbrev pub roomOf : Bool → ℕ → ℕ
+roomOf counts left = cond counts left longest
+
+-- the counts of w bits before the one that overflows
+abbrev pub left : ℕ → ℕ → ℕ
+left w n = 2 ^ w - 1 - n
+
+-- of a timer's pair, in its mode: 13 bits, 16 bits, or TL's 8
+unfoldable pub leftIn : ℕ → ℕ → ℕ → ℕ
+leftIn mode tl th = cond (eqb mode 0) (left 13 (pair13 tl th)) (cond (eqb mode 1) (left 16 (pair16 tl th)) (left 8 tl))
+
+-- Timer 1 in mode 3 holds
+unfoldable pub moves1 : Timers → ℕ → Bool
+moves1 t l = counts1 t l && not (eqb (mode1 t) 3)
+
+-- Timer 0, TH0 in mode 3, Timer 1
+unfoldable pub roomTimers : ℕ → Timers → ℕ
+roomTimers l t =
+    min (roomOf (counts0 t l) (leftIn (mode0 t) (t .tl0) (t .th0)))
+    (min (roomOf (countsHigh0 t) (left 8 (t .th0))) (roomOf (moves1 t l) (leftIn (mode1 t) (t .tl1) (t .th1))))
+
+-- Timer 2 as a timer
+unfoldable pub moves2 : Timer2 → Bool
+moves2 t = eqb (bit TR2 (t .t2con)) 1 && eqb (bit C/T2 (t .t2con)) 0
+
+-- it counts six times a cycle with RCLK or TCLK set
+unfoldable pub left2 : Timer2 → ℕ
+left2 t = cond (baudRate t) (left 16 (count2 t) / 6) (left 16 (count2 t))
+
+-- Timer 2
+unfoldable pub room2 : Timer2 → ℕ
+room2 t = roomOf (moves2 t) (left2 t)
+
+-- the least of them; none in a device that is not settled
+unfoldable pub roomAt : ℕ → Device → ℕ
+roomAt l d = cond (settledAt l d) (min (roomTimers l (d .timers)) (room2 (d .timer2))) 0
+
+-- The stride: m quiet cycles at once
+
+-- m counts without an overflow, of 13 bits, of 16 bits, and of TL's 8
+abbrev pub by13 : ℕ → ℕ → ℕ → Count
+by13 m tl th = record { tl = tl / 32 * 32 + (pair13 tl th + m) % 32; th = (pair13 tl th + m) / 32; overflow = 0 }
+
+abbrev pub by16 : ℕ → ℕ → ℕ → Count
+by16 m tl th = record { tl = (pair16 tl th + m) % 256; th = (pair16 tl th + m) / 256; overflow = 0 }
+
+abbrev pub by8 : ℕ → ℕ → ℕ → Count
+by8 m tl th = record { tl = tl + m; th = th; overflow = 0 }
+
+-- in a timer's mode
+unfoldable pub movedIn : ℕ → ℕ → ℕ → ℕ → Count
+movedIn m mode tl th = cond (eqb mode 0) (by13 m tl th) (cond (eqb mode 1) (by16 m tl th) (by8 m tl th))
+
+-- of a timer that counts, or not
+unfoldable pub moved : ℕ → Bool → ℕ → ℕ → ℕ → Count
+moved m counts mode tl th = cond counts (movedIn m mode tl th) (hold tl th)
+
+-- Timers 0 and 1; in mode 3 TH0 counts apart
+unfoldable pub strideTimers : ℕ → ℕ → Timers → Timers
+strideTimers m l t =
+    let low = moved m (counts0 t l) (mode0 t) (t .tl0) (t .th0) in
+    let one = moved m (moves1 t l) (mode1 t) (t .tl1) (t .th1) in
+    record {
+      tcon = t .tcon;
+      tmod = t .tmod;
+      tl0 = low .tl;
+      tl1 = one .tl;
+      th0 = cond (countsHigh0 t) (t .th0 + m) (low .th);
+      th1 = one .th;
+      due0 = t .due0;
+      due1 = t .due1;
+    }
+
+-- Timer 2's counts of m cycles
+unfoldable pub counts2 : ℕ → Timer2 → ℕ
+counts2 m t = cond (moves2 t) (cond (baudRate t) (m * 6) m) 0
+
+-- Timer 2
+unfoldable pub stride2 : ℕ → Timer2 → Timer2
+stride2 m t = withCount2 (count2 t + counts2 m t) t
+
+-- serial mode 2 ticks in every cycle; at rest the others have no ticks but those of overflows
+unfoldable pub ticks2 : ℕ → ℕ → ℕ → ℕ
+ticks2 m smod scon = cond (eqb (serialMode scon) 2) (cond (eqb smod 1) (m * 6) (m * 3)) 0
+
+-- a tick takes RXD into the last line sample
+unfoldable pub sampled : ℕ → ℕ → ℕ → ℕ → ℕ
+sampled m scon rxd sample = cond (eqb (serialMode scon) 2 && not (eqb m 0)) rxd sample
+
+-- the send counter takes the ticks, and the last line sample RXD
+unfoldable pub strideSerial : ℕ → ℕ → ℕ → Serial → Serial
+strideSerial m smod rxd s =
+    record {
+      scon = s .scon;
+      send =
+          record {
+            position = s .send .position;
+            value = s .send .value;
+            counter = (s .send .counter + ticks2 m smod (s .scon)) % 16;
+          };
+      receive = withSample (sampled m (s .scon) rxd (s .receive .sample)) (s .receive);
+      half = s .half;
+      received = s .received;
+    }
+
+-- running timers, the serial port in mode 2 and the cycle number move, and nothing else
+unfoldable pub strideAt : ℕ → ℕ → Device → Device
+strideAt m l d =
+    record {
+      kind = d .kind;
+      pcon = d .pcon;
+      timers = strideTimers m l (d .timers);
+      timer2 = stride2 m (d .timer2);
+      serial = strideSerial m (bit SMOD (d .pcon)) (bit RXD l) (d .serial);
+      interrupts = d .interrupts;
+      levels = d .levels;
+      cycle = (d .cycle + m) % 2 ^ 64;
+    }
+
+-- The same of a pin byte as it is given
+
+unfoldable pub settled : ℕ → Device → Bool
+settled pins d = settledAt (pinsOf (d .kind) pins) d
+
+-- the length of the run of cycles from d on that are not busy, at most a jump's
+unfoldable pub room : ℕ → Device → ℕ
+room pins d = roomAt (pinsOf (d .kind) pins) d
+
+-- the device after m of these cycles
+unfoldable pub stride : ℕ → ℕ → Device → Device
+stride m pins d = strideAt m (pinsOf (d .kind) pins) d

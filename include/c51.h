@@ -1,0 +1,239 @@
+/*
+ * The proved peripherals of the 80C51 and 80C52: timers, serial port and interrupt controller.
+ *
+ * A device is one record, c51_device, which the caller owns: the library keeps nothing between calls, so that any number of
+ * devices run side by side and in any number of threads. Every call is answered for every content of the record and of its other
+ * arguments; only a pointer has to point where its comment says.
+ *
+ * A call answers a code: 0, or the number of the refusal. The lowest number applies, except that in a trace 5 goes first after 1,
+ * then the first bad entry, 4 before 8 within it. A refused call leaves the record as it was, and every other number of its answer
+ * is 0. Each call but c51_reset and c51_accepts first judges the record, so that each of them may answer C51_BAD_RECORD.
+ */
+#ifndef C51_H
+#define C51_H
+
+#include <stddef.h>
+#include <stdint.h>
+
+#ifdef __cplusplus
+extern "C" {
+#endif
+
+/* The codes. */
+enum {
+    C51_PASSED = 0,
+    C51_BAD_RECORD = 1,         /* a field outside its range or mask, or a kind that is neither 51 nor 52 */
+    C51_BAD_KIND = 2,           /* reset with another kind than 51 or 52 */
+    C51_BAD_ADDRESS = 3,        /* read or write at an address that this kind lacks */
+    C51_BAD_PINS = 4,           /* a pin byte, also in a trace, with bit 7 set */
+    C51_TOO_LONG = 5,           /* more than C51_MAX_CYCLES cycles, or a trace of more than C51_MAX_TRACE entries */
+    C51_NOTHING_OFFERED = 6,    /* take with nothing offered */
+    C51_NOTHING_IN_SERVICE = 7, /* return with nothing in service */
+    C51_EMPTY_ENTRY = 8,        /* a trace entry of 0 cycles */
+    C51_ROLLED_TWICE = 9        /* a serial counter rolls over twice in one cycle; an accepted record never meets it */
+};
+
+#define C51_MAX_CYCLES ((uint64_t)1 << 40) /* of one jump or look ahead */
+#define C51_MAX_TRACE 65536u               /* entries of one trace */
+
+/* The pin byte of a cycle: a bit for each pin, bit 7 is 0. Kind 51 takes T2 and T2EX as 1. */
+enum {
+    C51_PIN_RXD = 0x01,
+    C51_PIN_INT0 = 0x02,
+    C51_PIN_INT1 = 0x04,
+    C51_PIN_T0 = 0x08,
+    C51_PIN_T1 = 0x10,
+    C51_PIN_T2 = 0x20,
+    C51_PIN_T2EX = 0x40,
+    C51_PINS_HIGH = 0x7F
+};
+
+/* The addresses of the registers; those of Timer 2 on kind 52 alone. */
+enum {
+    C51_PCON = 0x87,
+    C51_TCON = 0x88,
+    C51_TMOD = 0x89,
+    C51_TL0 = 0x8A,
+    C51_TL1 = 0x8B,
+    C51_TH0 = 0x8C,
+    C51_TH1 = 0x8D,
+    C51_SCON = 0x98,
+    C51_SBUF = 0x99,
+    C51_IE = 0xA8,
+    C51_IP = 0xB8,
+    C51_T2CON = 0xC8,
+    C51_RCAP2L = 0xCA,
+    C51_RCAP2H = 0xCB,
+    C51_TL2 = 0xCC,
+    C51_TH2 = 0xCD
+};
+
+/* ---------------------------------------------------------------- the record: each field with what an accepted record has in it */
+
+/* Timers 0 and 1. */
+typedef struct {
+    uint8_t tcon; /* TCON */
+    uint8_t tmod; /* TMOD */
+    uint8_t tl0;  /* TL0 */
+    uint8_t tl1;  /* TL1 */
+    uint8_t th0;  /* TH0 */
+    uint8_t th1;  /* TH1 */
+    uint8_t due0; /* 0 or 1: T0 fell in the last cycle, a counter counts in the next */
+    uint8_t due1; /* 0 or 1: the same of T1 */
+} c51_timers;
+
+/* Timer 2; all 0 on kind 51. */
+typedef struct {
+    uint8_t t2con;  /* T2CON */
+    uint8_t rcap2l; /* RCAP2L */
+    uint8_t rcap2h; /* RCAP2H */
+    uint8_t tl2;    /* TL2 */
+    uint8_t th2;    /* TH2 */
+    uint8_t due2;   /* 0 or 1: T2 fell in the last cycle */
+} c51_timer2;
+
+/* The sender. */
+typedef struct {
+    uint8_t position; /* 0 resting, 1 asked, 2 start bit, 3 to 10 data bits, 11 ninth bit (serial modes 2 and 3 alone) */
+    uint16_t value;   /* 0 to 511: the byte and, in bit 8, TB8 */
+    uint8_t counter;  /* 0 to 15: ticks of the bit */
+} c51_sender;
+
+/* The receiver. */
+typedef struct {
+    uint8_t position; /* 0 resting, 1 start bit, 2 to 9 data bits, 10 stop or ninth bit, 11 stop bit (serial modes 2 and 3 alone) */
+    uint16_t value;   /* 0 to 511: the bits so far */
+    uint8_t counter;  /* 0 to 15: ticks of the bit; the line is sampled at 7, 8 and 9 */
+    uint8_t votes;    /* 0 to 2: the samples so far that were 1 */
+    uint8_t sample;   /* 0 or 1: RXD at the last tick */
+} c51_receiver;
+
+/* The serial port. */
+typedef struct {
+    uint8_t scon; /* SCON */
+    c51_sender send;
+    c51_receiver receive;
+    uint8_t half;     /* 0 or 1: with SMOD 0 every second overflow of Timer 1 is a tick */
+    uint8_t received; /* the received byte, which a read of SBUF gives */
+} c51_serial;
+
+/* The interrupt controller. */
+typedef struct {
+    uint8_t ie;     /* IE, within BF (kind 51: 9F) */
+    uint8_t ip;     /* IP, within 3F (kind 51: 1F) */
+    uint8_t seen;   /* 0 to 63: the sources as the last cycle left them, IE0 TF0 IE1 TF1 serial Timer 2 from bit 0 */
+    uint8_t polled; /* 0 to 63: the same a cycle earlier; an offer comes from here */
+    uint8_t low;    /* 0 or 1: an interrupt of the low level is in service */
+    uint8_t high;   /* 0 or 1: one of the high level is */
+} c51_interrupts;
+
+/* The device record. */
+typedef struct {
+    uint8_t kind; /* 51 or 52 */
+    uint8_t pcon; /* PCON, within 8F */
+    c51_timers timers;
+    c51_timer2 timer2;
+    c51_serial serial;
+    c51_interrupts interrupts;
+    uint8_t levels[7]; /* 0 or 1: the levels of the last cycle, RXD INT0 INT1 T0 T1 T2 T2EX */
+    uint64_t cycle;    /* the cycle number, which wraps */
+} c51_device;
+
+/* ---------------------------------------------------------------- the answers */
+
+/* A code and a device. */
+typedef struct {
+    uint8_t code;
+    c51_device device;
+} c51_answer;
+
+/* A cycle in place: the output line as the cycle leaves it. */
+typedef struct {
+    uint8_t code;
+    uint8_t line;
+} c51_line_answer;
+
+/* A cycle by value. */
+typedef struct {
+    uint8_t code;
+    uint8_t line;
+    c51_device device;
+} c51_cycle_answer;
+
+/* A take: the vector. */
+typedef struct {
+    uint8_t code;
+    uint8_t vector;
+} c51_vector_answer;
+
+/* A read: the register. */
+typedef struct {
+    uint8_t code;
+    uint8_t value;
+} c51_value_answer;
+
+/* An offer: offered is 1 and vector the vector, or both are 0. */
+typedef struct {
+    uint8_t code;
+    uint8_t offered;
+    uint8_t vector;
+} c51_offer_answer;
+
+/* A look ahead: found is 1 and at the cycle, from 1, or both are 0. */
+typedef struct {
+    uint8_t code;
+    uint8_t found;
+    uint64_t at;
+} c51_look_answer;
+
+/* ---------------------------------------------------------------- calls that alter a device in place
+ * The pointer points to a device that nothing else reads or writes during the call. */
+
+/* Writes a register: its implemented bits are stored. SBUF starts a sending; SCON with another mode rests both positions.
+ * Refusals: 1, 3. */
+uint8_t c51_write(c51_device *device, uint8_t address, uint8_t value);
+
+/* One machine cycle. Refusals: 1, 4, 9. */
+c51_line_answer c51_cycle(c51_device *device, uint8_t pins);
+
+/* n cycles, 0 to C51_MAX_CYCLES, with one pin byte; long quiet stretches cost next to nothing. Refusals: 1, 4, 5, 9. */
+uint8_t c51_jump(c51_device *device, uint8_t pins, uint64_t n);
+
+/* Takes the interrupt that is offered: its level is in service, its bit leaves seen and polled, and TF0, TF1 or an edge-triggered
+ * IE0 or IE1 is cleared. Refusals: 1, 6. */
+c51_vector_answer c51_take(c51_device *device);
+
+/* ---------------------------------------------------------------- calls by value: the device that is passed stays as it is */
+
+/* The device after reset. Refusal: 2, and the device is then a record all zero, which every other call refuses by 1. */
+c51_answer c51_reset(uint8_t kind);
+
+/* Reads a register; SBUF gives the received byte. Refusals: 1, 3. */
+c51_value_answer c51_read(c51_device device, uint8_t address);
+
+/* The vector of the interrupt that is offered, 03 0B 13 1B 23 2B, or none. Refusal: 1. */
+c51_offer_answer c51_offer(c51_device device);
+
+/* The first of the next n cycles in which one of TF0, TF1, IE0, IE1, RI, TI, TF2, EXF2 goes from 0 to 1 under this pin byte, or none.
+ * Refusals: 1, 4, 5, 9. */
+c51_look_answer c51_look(c51_device device, uint8_t pins, uint64_t n);
+
+/* Return from interrupt: the high level leaves service, or else the low one. Refusals: 1, 7. */
+c51_answer c51_return(c51_device device);
+
+/* Runs a trace of count entries, checked whole before it runs: the pin byte in the top 8 bits of an entry, 1 to 16,777,215 cycles in the
+ * other 24. entries points to count numbers and is not NULL, where count is 0 neither. Refusals: 1, 5, 4, 8, 9. */
+c51_answer c51_trace(c51_device device, const uint32_t *entries, size_t count);
+
+/* 1 where the record is accepted, 0 where every call but reset refuses it by 1. */
+uint8_t c51_accepts(c51_device device);
+
+/* The cycle and the jump once more, by value. Refusals as above. */
+c51_cycle_answer c51_cycle_value(c51_device device, uint8_t pins);
+c51_answer c51_jump_value(c51_device device, uint8_t pins, uint64_t n);
+
+#ifdef __cplusplus
+}
+#endif
+
+#endif

@@ -1,0 +1,279 @@
+//! The benchmark: single cycles, the idle station, a device at rest, a frame, and a thousand tags, next to the plain model and to
+//! other programs.
+use bench::others::{emu8051, s51, Figure};
+use bench::plain::Plain;
+use bench::tight::Idle;
+use bench::timing::{race, seconds, Contender};
+use c51::{address, pin, raw, Device, MAX_CYCLES, PINS_HIGH};
+use compare::record::to_model;
+use station::chip::{Chip, CYCLES_A_SECOND};
+use station::frame::{frame, Stretch, BIT};
+use station::reader::Reader;
+use station::run::{Plan, Station};
+use std::hint::black_box;
+use std::process::exit;
+
+/// How much is run: `--quick` a twentieth, to try the program out.
+struct Scale {
+    runs: u32,
+    part: u64,
+}
+
+const FULL: Scale = Scale { runs: 5, part: 1 };
+const QUICK: Scale = Scale { runs: 1, part: 20 };
+
+fn main() {
+    let words: Vec<String> = std::env::args().skip(1).collect();
+    let scale = match words.iter().map(String::as_str).collect::<Vec<&str>>()[..] {
+        [] => FULL,
+        ["--quick"] => QUICK,
+        _ => {
+            eprintln!("bench: unknown option\nusage: bench [--quick]");
+            exit(2);
+        }
+    };
+    println!("Times of this machine: {}", processor());
+    println!("Each is the best of {} runs, contenders in turn.", scale.runs);
+    single_cycles(&scale);
+    let per_cycle = idle_station(&scale);
+    at_rest(&scale);
+    one_frame(&scale);
+    let s51 = s51();
+    let emu8051 = emu8051(&std::env::temp_dir());
+    others(&s51, &emu8051, per_cycle);
+    thousand_tags(&scale, per_cycle, &s51, &emu8051);
+}
+
+/// The processor's name, where the system tells it.
+fn processor() -> String {
+    let info = std::fs::read_to_string("/proc/cpuinfo").unwrap_or_default();
+    let name = info.lines().find_map(|line| line.strip_prefix("model name")).and_then(|rest| rest.split_once(": "));
+    name.map_or("unknown processor", |(_, name)| name).to_string()
+}
+
+/// A line for each contender: its time a piece, and how many times that of contender `base` it is.
+fn lines(contenders: &[Contender], times: &[f64], pieces: u64, unit: (&str, f64), base: usize) {
+    for (contender, time) in contenders.iter().zip(times) {
+        let a_piece = time / pieces as f64 * unit.1;
+        println!("  {:<34} {:>12.3} {}  {:>8.2} x {}", contender.name, a_piece, unit.0, time / times[base], contenders[base].name);
+    }
+}
+
+/// The idle station: 80C52, serial mode 1, Timer 1 in mode 2, TH1 FD, SMOD 0.
+fn idle() -> Device {
+    let mut device = Reader::<Device>::new().chip;
+    Chip::jump(&mut device, PINS_HIGH, 100);
+    device
+}
+
+/// All three timers running, serial mode 3 both ways from Timer 2.
+fn all_running() -> Device {
+    let mut device = Device::reset(52).expect("a kind");
+    let writes = [
+        (address::TMOD, 0x11),
+        (address::RCAP2L, 0xFD),
+        (address::RCAP2H, 0xFF),
+        (address::T2CON, 0x34),
+        (address::SCON, 0xD0),
+        (address::SBUF, 0x55),
+        (address::TCON, 0x50),
+    ];
+    for (address, value) in writes {
+        device.write(address, value).expect("a register");
+    }
+    device
+}
+
+/// A frame as a pin byte for each cycle.
+fn frame_pins() -> Vec<u8> {
+    let levels = frame(b'5', None).into_iter().flat_map(|stretch| std::iter::repeat_n(stretch.rxd, stretch.cycles as usize));
+    levels.map(|rxd| if rxd == 1 { PINS_HIGH } else { PINS_HIGH & !pin::RXD }).collect()
+}
+
+fn single_cycles(scale: &Scale) {
+    for (what, device, pins) in [
+        ("idle station", idle(), vec![PINS_HIGH]),
+        ("a frame arriving", idle(), frame_pins()),
+        ("all timers running, serial mode 3 by Timer 2", all_running(), vec![PINS_HIGH]),
+    ] {
+        let rounds = 1_000_000 / scale.part / pins.len() as u64;
+        let cycles = rounds * pins.len() as u64;
+        let model = to_model(&device);
+        let mut contenders = [
+            Contender::new("in place (c51_cycle)", || {
+                let mut device = device;
+                for _ in 0..rounds {
+                    for &pins in &pins {
+                        black_box(raw::c51_cycle(&mut device, pins));
+                    }
+                }
+                black_box(device);
+            }),
+            Contender::new("by value (c51_cycle_value)", || {
+                let mut device = device;
+                for _ in 0..rounds {
+                    for &pins in &pins {
+                        device = raw::c51_cycle_value(device, pins).device;
+                    }
+                }
+                black_box(device);
+            }),
+            Contender::new("plain model", || {
+                let mut model = model;
+                for _ in 0..rounds {
+                    for &pins in &pins {
+                        black_box(model.cycle(pins)).expect("a cycle");
+                    }
+                }
+                black_box(model);
+            }),
+        ];
+        let times = race(scale.runs, &mut contenders);
+        println!("\nA single cycle, {what}:");
+        lines(&contenders, &times, cycles, ("ns", 1e9), 2);
+    }
+}
+
+/// Gives the library's seconds a cycle.
+fn idle_station(scale: &Scale) -> f64 {
+    let cycles = 3_000_000 / scale.part;
+    let device = idle();
+    let model = to_model(&device);
+    let mut tight = Idle::of(&device);
+    let rounds = tight.jump(cycles);
+    let mut jumped = device;
+    Chip::jump(&mut jumped, PINS_HIGH, cycles);
+    assert_eq!(jumped, tight.device(&device), "the loop by hand ends where the library ends");
+    let mut contenders = [
+        Contender::new("jump in place (c51_jump)", || {
+            let mut device = black_box(device);
+            Chip::jump(&mut device, PINS_HIGH, cycles);
+            black_box(device);
+        }),
+        Contender::new("jump by value (c51_jump_value)", || {
+            black_box(raw::c51_jump_value(black_box(device), PINS_HIGH, cycles));
+        }),
+        Contender::new("look ahead (c51_look)", || {
+            black_box(raw::c51_look(black_box(device), PINS_HIGH, cycles));
+        }),
+        Contender::new("plain model, stepping", || {
+            let mut model = black_box(model);
+            model.jump(PINS_HIGH, cycles).expect("a jump");
+            black_box(model);
+        }),
+        Contender::new("loop by hand over the same rounds", || {
+            let mut idle = Idle::of(&black_box(device));
+            black_box(idle.jump(black_box(cycles)));
+            black_box(idle.device(&device));
+        }),
+    ];
+    let times = race(scale.runs, &mut contenders);
+    println!("\nThe idle station, {cycles} cycles in {rounds} rounds, a million cycles:");
+    lines(&contenders, &times, cycles, ("ms", 1e9), 4);
+    println!("The same, a round:");
+    lines(&contenders, &times, rounds, ("ns", 1e9), 3);
+    times[0] / cycles as f64
+}
+
+fn at_rest(scale: &Scale) {
+    let device = Device::reset(52).expect("a kind");
+    let jumps = 10_000 / scale.part;
+    let mut contenders = [
+        Contender::new("jump of 2^40 cycles", || {
+            for _ in 0..jumps {
+                let mut device = black_box(device);
+                Chip::jump(&mut device, PINS_HIGH, MAX_CYCLES);
+                black_box(device);
+            }
+        }),
+        Contender::new("look ahead over 2^40 cycles", || {
+            for _ in 0..jumps {
+                black_box(raw::c51_look(black_box(device), PINS_HIGH, MAX_CYCLES));
+            }
+        }),
+        Contender::new("jump of 1 cycle", || {
+            for _ in 0..jumps {
+                let mut device = black_box(device);
+                Chip::jump(&mut device, PINS_HIGH, 1);
+                black_box(device);
+            }
+        }),
+    ];
+    let times = race(scale.runs, &mut contenders);
+    println!("\nA device at rest:");
+    lines(&contenders, &times, jumps, ("ns", 1e9), 2);
+}
+
+/// Frames one after the other, each read by interrupt.
+fn read_frames<C: Chip>(frames: u64) {
+    let mut reader: Reader<C> = Reader::new();
+    reader.hold(Stretch { rxd: 1, cycles: BIT });
+    for number in 0..frames {
+        frame(b'0' + (number % 10) as u8, None).into_iter().for_each(|stretch| reader.hold(stretch));
+    }
+    assert_eq!(reader.take_received().len() as u64, frames);
+}
+
+fn one_frame(scale: &Scale) {
+    let frames = 1000 / scale.part;
+    let mut contenders = [
+        Contender::new("library", || read_frames::<Device>(frames)),
+        Contender::new("plain model", || read_frames::<Plain>(frames)),
+    ];
+    let times = race(scale.runs, &mut contenders);
+    println!("\nA frame of 960 cycles, by look ahead and jump, read by interrupt:");
+    lines(&contenders, &times, frames, ("us", 1e6), 1);
+}
+
+fn others(s51: &Figure, emu8051: &Figure, per_cycle: f64) {
+    println!("\nOther programs on the idle station, a million cycles:");
+    for (name, figure) in [("s51, tick", s51), ("emu8051, with its instructions", emu8051)] {
+        match figure {
+            Ok(seconds) => println!("  {name:<34} {:>12.3} ms  {:>8.2} x jump in place", seconds * 1e9, seconds / per_cycle),
+            Err(why) => println!("  {name:<34} {why}"),
+        }
+    }
+}
+
+/// The time of `tags` tags at one station.
+fn read_tags<C: Chip>(gap: u64, tags: u64) -> f64 {
+    let plan = Plan { stations: 1, tags, gap, seed: 1, noise: 1, chosen: Vec::new() };
+    let mut station: Station<C> = Station::new(1, plan.seed);
+    seconds(|| {
+        for _ in 0..tags {
+            assert!(station.read_tag(&plan, None).right(), "a tag as sent");
+        }
+    })
+}
+
+fn thousand_tags(scale: &Scale, per_cycle: f64, s51: &Figure, emu8051: &Figure) {
+    const TAGS: u64 = 1000;
+    const GAPS: [u64; 2] = [1, 60];
+    println!("\nRun time for {TAGS} tags, with a gap of {} s and of {} s before each:", GAPS[0], GAPS[1]);
+    let row = |name: &str, times: [f64; 2], how: &str| println!("  {name:<16} {:>10.2} s {:>10.2} s   {how}", times[0], times[1]);
+
+    let budget = 4.0 / scale.part as f64;
+    let counts = GAPS.map(|gap| ((budget / (2.0 * per_cycle * (gap * CYCLES_A_SECOND) as f64)) as u64).clamp(1, TAGS));
+    let library = [0, 1].map(|i| read_tags::<Device>(GAPS[i] * CYCLES_A_SECOND, counts[i]) * TAGS as f64 / counts[i] as f64);
+    row("library", library, &format!("measured on {} and {} tags", counts[0], counts[1]));
+
+    let tags = (20 / scale.part).max(2);
+    let [short, long] = [CYCLES_A_SECOND / 100, CYCLES_A_SECOND / 10].map(|gap| (gap, read_tags::<Plain>(gap, tags) / tags as f64));
+    let slope = (long.1 - short.1) / (long.0 - short.0) as f64;
+    let model = GAPS.map(|gap| TAGS as f64 * (long.1 + slope * (gap * CYCLES_A_SECOND - long.0) as f64));
+    row(
+        "plain model",
+        model,
+        &format!("measured on scaled-down gaps of 0.01 s and 0.1 s, {tags} tags each, and extended in proportion"),
+    );
+
+    for (name, figure) in [("s51", s51), ("emu8051", emu8051)] {
+        match figure {
+            Ok(seconds) => {
+                let idle = GAPS.map(|gap| TAGS as f64 * seconds * (gap * CYCLES_A_SECOND) as f64);
+                row(name, idle, "the gaps alone, from its time a cycle above");
+            }
+            Err(why) => println!("  {name:<16} {why}"),
+        }
+    }
+}

@@ -1,0 +1,74 @@
+//! The model by other hands as a station's chip. It steps cycle by cycle; what a look ahead has stepped, the jump after it takes over, so
+//! that every cycle is stepped once.
+use c51::Device;
+use c51model::model;
+use compare::record::of_model;
+use station::chip::Chip;
+use std::cell::Cell;
+
+pub struct Plain {
+    device: model::Device,
+    /// Where the last look ahead came to: pins, cycles, and the device there.
+    ahead: Cell<Option<(u8, u64, model::Device)>>,
+}
+
+const PASSES: &str = "a station's calls pass";
+
+impl Chip for Plain {
+    fn reset() -> Plain {
+        Plain { device: model::Device::reset(52).0, ahead: Cell::new(None) }
+    }
+
+    fn read(&self, address: u8) -> u8 {
+        self.device.read(address).expect(PASSES)
+    }
+
+    fn write(&mut self, address: u8, value: u8) {
+        self.ahead.set(None);
+        self.device.write(address, value).expect(PASSES)
+    }
+
+    fn cycle(&mut self, pins: u8) -> u8 {
+        self.ahead.set(None);
+        self.device.cycle(pins).expect(PASSES)
+    }
+
+    fn jump(&mut self, pins: u8, n: u64) {
+        match self.ahead.take() {
+            Some((held, stepped, device)) if (held, stepped) == (pins, n) => self.device = device,
+            _ => self.device.jump(pins, n).expect(PASSES),
+        }
+    }
+
+    fn look_ahead(&self, pins: u8, n: u64) -> Option<u64> {
+        let mut device = self.device;
+        for k in 1..=n {
+            let before = device.flags();
+            device.jump(pins, 1).expect(PASSES);
+            if device.flags() & !before != 0 {
+                self.ahead.set(Some((pins, k, device)));
+                return Some(k);
+            }
+        }
+        self.ahead.set(Some((pins, n, device)));
+        None
+    }
+
+    fn offer(&self) -> Option<u8> {
+        self.device.offer().expect(PASSES).map(|vector| vector as u8)
+    }
+
+    fn take(&mut self) -> u8 {
+        self.ahead.set(None);
+        self.device.take().expect(PASSES) as u8
+    }
+
+    fn return_from_interrupt(&mut self) {
+        self.ahead.set(None);
+        self.device.return_from_interrupt().expect(PASSES)
+    }
+
+    fn record(&self) -> Device {
+        of_model(&self.device)
+    }
+}

@@ -1,0 +1,203 @@
+//! The proved peripherals of the 80C51 and 80C52 for Rust: a thin wrapper over the C library.
+//!
+//! A [`Device`] is the plain record of `c51.h`, with public fields. Any content is answered: a record that is no device's is refused as
+//! [`Refusal::BadRecord`]. A refused call leaves the device as it was.
+//!
+//! ```
+//! use c51::{address, Device, PINS_HIGH};
+//!
+//! let mut device = Device::reset(52)?;
+//! device.write(address::TMOD, 0x01)?; // Timer 0 in mode 1
+//! device.write(address::TH0, 0xFF)?;
+//! device.write(address::TL0, 0xFE)?;
+//! device.write(address::IE, 0x82)?;
+//! device.write(address::TCON, 0x10)?; // run
+//! assert_eq!(device.look_ahead(PINS_HIGH, 100)?, Some(2)); // TF0 rises in cycle 2
+//! device.jump(PINS_HIGH, 3)?;
+//! assert_eq!(device.offer()?, Some(0x0B));
+//! # Ok::<(), c51::Refusal>(())
+//! ```
+
+pub mod raw;
+
+pub use raw::{Device, Interrupts, Receiver, Sender, Serial, Timer2, Timers};
+
+/// All pins at 1.
+pub const PINS_HIGH: u8 = 0x7F;
+/// The longest jump and look ahead.
+pub const MAX_CYCLES: u64 = 1 << 40;
+/// The entries of the longest trace.
+pub const MAX_TRACE: usize = 65_536;
+
+/// Bits of the pin byte.
+pub mod pin {
+    pub const RXD: u8 = 0x01;
+    pub const INT0: u8 = 0x02;
+    pub const INT1: u8 = 0x04;
+    pub const T0: u8 = 0x08;
+    pub const T1: u8 = 0x10;
+    pub const T2: u8 = 0x20;
+    pub const T2EX: u8 = 0x40;
+}
+
+/// Addresses of the registers; those of Timer 2 on kind 52 alone.
+pub mod address {
+    pub const PCON: u8 = 0x87;
+    pub const TCON: u8 = 0x88;
+    pub const TMOD: u8 = 0x89;
+    pub const TL0: u8 = 0x8A;
+    pub const TL1: u8 = 0x8B;
+    pub const TH0: u8 = 0x8C;
+    pub const TH1: u8 = 0x8D;
+    pub const SCON: u8 = 0x98;
+    pub const SBUF: u8 = 0x99;
+    pub const IE: u8 = 0xA8;
+    pub const IP: u8 = 0xB8;
+    pub const T2CON: u8 = 0xC8;
+    pub const RCAP2L: u8 = 0xCA;
+    pub const RCAP2H: u8 = 0xCB;
+    pub const TL2: u8 = 0xCC;
+    pub const TH2: u8 = 0xCD;
+}
+
+/// Why a call was refused; the number is the library's code.
+#[derive(Clone, Copy, PartialEq, Eq, Hash, Debug)]
+#[repr(u8)]
+pub enum Refusal {
+    BadRecord = 1,
+    BadKind = 2,
+    BadAddress = 3,
+    BadPins = 4,
+    TooLong = 5,
+    NothingOffered = 6,
+    NothingInService = 7,
+    EmptyEntry = 8,
+    RolledTwice = 9,
+}
+
+impl Refusal {
+    /// Every refusal, in the order of the codes.
+    pub const ALL: [Refusal; 9] = [
+        Refusal::BadRecord,
+        Refusal::BadKind,
+        Refusal::BadAddress,
+        Refusal::BadPins,
+        Refusal::TooLong,
+        Refusal::NothingOffered,
+        Refusal::NothingInService,
+        Refusal::EmptyEntry,
+        Refusal::RolledTwice,
+    ];
+
+    /// The library's code.
+    pub fn code(self) -> u8 {
+        self as u8
+    }
+
+    /// The refusal of a code, None for 0 and for a code that the library does not have.
+    pub fn of_code(code: u8) -> Option<Refusal> {
+        Refusal::ALL.into_iter().find(|refusal| refusal.code() == code)
+    }
+}
+
+impl std::fmt::Display for Refusal {
+    fn fmt(&self, f: &mut std::fmt::Formatter) -> std::fmt::Result {
+        f.write_str(match self {
+            Refusal::BadRecord => "a field of the record is outside its range or mask",
+            Refusal::BadKind => "the kind is neither 51 nor 52",
+            Refusal::BadAddress => "this kind has no register at the address",
+            Refusal::BadPins => "bit 7 of the pin byte is set",
+            Refusal::TooLong => "more than 2^40 cycles, or more than 65,536 trace entries",
+            Refusal::NothingOffered => "no interrupt is offered",
+            Refusal::NothingInService => "no interrupt is in service",
+            Refusal::EmptyEntry => "a trace entry has no cycles",
+            Refusal::RolledTwice => "a serial counter rolled over twice in one cycle",
+        })
+    }
+}
+
+impl std::error::Error for Refusal {}
+
+/// The value where the code is 0, otherwise the refusal.
+#[inline]
+fn answer<T>(code: u8, value: T) -> Result<T, Refusal> {
+    match code {
+        0 => Ok(value),
+        _ => Err(Refusal::of_code(code).expect("a code of the library")),
+    }
+}
+
+impl Device {
+    /// The device after reset, of kind 51 or 52.
+    pub fn reset(kind: u8) -> Result<Device, Refusal> {
+        let a = raw::c51_reset(kind);
+        answer(a.code, a.device)
+    }
+
+    /// Whether the calls accept the record.
+    pub fn accepts(&self) -> bool {
+        raw::c51_accepts(*self) == 1
+    }
+
+    /// Reads a register; SBUF gives the received byte.
+    #[inline]
+    pub fn read(&self, address: u8) -> Result<u8, Refusal> {
+        let a = raw::c51_read(*self, address);
+        answer(a.code, a.value)
+    }
+
+    /// Writes a register.
+    #[inline]
+    pub fn write(&mut self, address: u8, value: u8) -> Result<(), Refusal> {
+        answer(raw::c51_write(self, address, value), ())
+    }
+
+    /// One machine cycle; gives the output line as the cycle leaves it.
+    #[inline]
+    pub fn cycle(&mut self, pins: u8) -> Result<u8, Refusal> {
+        let a = raw::c51_cycle(self, pins);
+        answer(a.code, a.line)
+    }
+
+    /// n cycles with one pin byte.
+    #[inline]
+    pub fn jump(&mut self, pins: u8, n: u64) -> Result<(), Refusal> {
+        answer(raw::c51_jump(self, pins, n), ())
+    }
+
+    /// Runs a trace: in each entry the pin byte on top and the cycles in the low 24 bits.
+    pub fn trace(&mut self, entries: &[u32]) -> Result<(), Refusal> {
+        let a = raw::trace(*self, entries);
+        *self = answer(a.code, a.device)?;
+        Ok(())
+    }
+
+    /// The first of the next n cycles in which a flag rises under this pin byte.
+    #[inline]
+    pub fn look_ahead(&self, pins: u8, n: u64) -> Result<Option<u64>, Refusal> {
+        let a = raw::c51_look(*self, pins, n);
+        answer(a.code, (a.found == 1).then_some(a.at))
+    }
+
+    /// The vector of the interrupt that is offered.
+    #[inline]
+    pub fn offer(&self) -> Result<Option<u8>, Refusal> {
+        let a = raw::c51_offer(*self);
+        answer(a.code, (a.offered == 1).then_some(a.vector))
+    }
+
+    /// Takes the interrupt that is offered; gives its vector.
+    #[inline]
+    pub fn take(&mut self) -> Result<u8, Refusal> {
+        let a = raw::c51_take(self);
+        answer(a.code, a.vector)
+    }
+
+    /// Return from interrupt.
+    #[inline]
+    pub fn return_from_interrupt(&mut self) -> Result<(), Refusal> {
+        let a = raw::c51_return(*self);
+        *self = answer(a.code, a.device)?;
+        Ok(())
+    }
+}

@@ -1,0 +1,168 @@
+//! The library as `c51.h` has it: the record field by field, the answers, and the functions.
+//!
+//! The functions are safe to call with any content of the record: each is proved for all inputs, and none keeps a reference.
+
+/// Timers 0 and 1: registers and due marks.
+#[repr(C)]
+#[derive(Clone, Copy, PartialEq, Eq, Debug, Default)]
+pub struct Timers {
+    pub tcon: u8,
+    pub tmod: u8,
+    pub tl0: u8,
+    pub tl1: u8,
+    pub th0: u8,
+    pub th1: u8,
+    pub due0: u8,
+    pub due1: u8,
+}
+
+/// Timer 2: registers and due mark.
+#[repr(C)]
+#[derive(Clone, Copy, PartialEq, Eq, Debug, Default)]
+pub struct Timer2 {
+    pub t2con: u8,
+    pub rcap2l: u8,
+    pub rcap2h: u8,
+    pub tl2: u8,
+    pub th2: u8,
+    pub due2: u8,
+}
+
+/// Send position, send value and send counter.
+#[repr(C)]
+#[derive(Clone, Copy, PartialEq, Eq, Debug, Default)]
+pub struct Sender {
+    pub position: u8,
+    pub value: u16,
+    pub counter: u8,
+}
+
+/// Receive position, receive value, receive counter, votes and last line sample.
+#[repr(C)]
+#[derive(Clone, Copy, PartialEq, Eq, Debug, Default)]
+pub struct Receiver {
+    pub position: u8,
+    pub value: u16,
+    pub counter: u8,
+    pub votes: u8,
+    pub sample: u8,
+}
+
+/// The serial port. SBUF's value is the received byte.
+#[repr(C)]
+#[derive(Clone, Copy, PartialEq, Eq, Debug, Default)]
+pub struct Serial {
+    pub scon: u8,
+    pub send: Sender,
+    pub receive: Receiver,
+    pub half: u8,
+    pub received: u8,
+}
+
+/// The interrupt controller: registers, seen, polled, and the levels in service.
+#[repr(C)]
+#[derive(Clone, Copy, PartialEq, Eq, Debug, Default)]
+pub struct Interrupts {
+    pub ie: u8,
+    pub ip: u8,
+    pub seen: u8,
+    pub polled: u8,
+    pub low: u8,
+    pub high: u8,
+}
+
+/// The device record. The levels are those of RXD, INT0, INT1, T0, T1, T2, T2EX. The default is the record of zeros.
+#[repr(C)]
+#[derive(Clone, Copy, PartialEq, Eq, Debug, Default)]
+pub struct Device {
+    pub kind: u8,
+    pub pcon: u8,
+    pub timers: Timers,
+    pub timer2: Timer2,
+    pub serial: Serial,
+    pub interrupts: Interrupts,
+    pub levels: [u8; 7],
+    pub cycle: u64,
+}
+
+/// A code and a device.
+#[repr(C)]
+#[derive(Clone, Copy, PartialEq, Eq, Debug)]
+pub struct Answer {
+    pub code: u8,
+    pub device: Device,
+}
+
+/// A cycle in place.
+#[repr(C)]
+#[derive(Clone, Copy, PartialEq, Eq, Debug)]
+pub struct LineAnswer {
+    pub code: u8,
+    pub line: u8,
+}
+
+/// A cycle by value.
+#[repr(C)]
+#[derive(Clone, Copy, PartialEq, Eq, Debug)]
+pub struct CycleAnswer {
+    pub code: u8,
+    pub line: u8,
+    pub device: Device,
+}
+
+/// A take.
+#[repr(C)]
+#[derive(Clone, Copy, PartialEq, Eq, Debug)]
+pub struct VectorAnswer {
+    pub code: u8,
+    pub vector: u8,
+}
+
+/// A read.
+#[repr(C)]
+#[derive(Clone, Copy, PartialEq, Eq, Debug)]
+pub struct ValueAnswer {
+    pub code: u8,
+    pub value: u8,
+}
+
+/// An offer.
+#[repr(C)]
+#[derive(Clone, Copy, PartialEq, Eq, Debug)]
+pub struct OfferAnswer {
+    pub code: u8,
+    pub offered: u8,
+    pub vector: u8,
+}
+
+/// A look ahead.
+#[repr(C)]
+#[derive(Clone, Copy, PartialEq, Eq, Debug)]
+pub struct LookAnswer {
+    pub code: u8,
+    pub found: u8,
+    pub at: u64,
+}
+
+// Sound as safe functions: the library is proved to answer every content, and a reference is only used during the call.
+unsafe extern "C" {
+    pub safe fn c51_write(device: &mut Device, address: u8, value: u8) -> u8;
+    pub safe fn c51_cycle(device: &mut Device, pins: u8) -> LineAnswer;
+    pub safe fn c51_jump(device: &mut Device, pins: u8, n: u64) -> u8;
+    pub safe fn c51_take(device: &mut Device) -> VectorAnswer;
+    pub safe fn c51_reset(kind: u8) -> Answer;
+    pub safe fn c51_read(device: Device, address: u8) -> ValueAnswer;
+    pub safe fn c51_offer(device: Device) -> OfferAnswer;
+    pub safe fn c51_look(device: Device, pins: u8, n: u64) -> LookAnswer;
+    pub safe fn c51_return(device: Device) -> Answer;
+    pub safe fn c51_accepts(device: Device) -> u8;
+    pub safe fn c51_cycle_value(device: Device, pins: u8) -> CycleAnswer;
+    pub safe fn c51_jump_value(device: Device, pins: u8, n: u64) -> Answer;
+    fn c51_trace(device: Device, entries: *const u32, count: usize) -> Answer;
+}
+
+/// `c51_trace` over a slice.
+pub fn trace(device: Device, entries: &[u32]) -> Answer {
+    // The pointer and the length are those of one slice.
+    unsafe { c51_trace(device, entries.as_ptr(), entries.len()) }
+}

@@ -1,0 +1,120 @@
+//! The layout of the record and of the answers: size and each offset, in Rust and in a C program that includes `c51.h`.
+use c51::raw::*;
+use std::mem::{offset_of, size_of};
+use std::path::{Path, PathBuf};
+use std::process::Command;
+
+/// A place of the layout: the C expression for it, its number in Rust, and the number that it must be.
+struct Place {
+    c: String,
+    rust: usize,
+    expected: usize,
+}
+
+macro_rules! layout {
+    ($($c:literal $rust:ident $size:literal { $($($field:ident).+ $offset:literal),* })*) => {
+        vec![$(
+            Place { c: format!("sizeof({})", $c), rust: size_of::<$rust>(), expected: $size },
+            $(Place {
+                c: format!("offsetof({}, {})", $c, stringify!($($field).+).replace(' ', "")),
+                rust: offset_of!($rust, $($field).+),
+                expected: $offset,
+            },)*
+        )*]
+    };
+}
+
+fn places() -> Vec<Place> {
+    layout! {
+        "c51_device" Device 56 {
+            kind 0, pcon 1,
+            timers.tcon 2, timers.tmod 3, timers.tl0 4, timers.tl1 5, timers.th0 6, timers.th1 7, timers.due0 8, timers.due1 9,
+            timer2.t2con 10, timer2.rcap2l 11, timer2.rcap2h 12, timer2.tl2 13, timer2.th2 14, timer2.due2 15,
+            serial.scon 16,
+            serial.send.position 18, serial.send.value 20, serial.send.counter 22,
+            serial.receive.position 24, serial.receive.value 26, serial.receive.counter 28, serial.receive.votes 29,
+            serial.receive.sample 30,
+            serial.half 32, serial.received 33,
+            interrupts.ie 34, interrupts.ip 35, interrupts.seen 36, interrupts.polled 37, interrupts.low 38, interrupts.high 39,
+            levels 40, cycle 48
+        }
+        "c51_timers" Timers 8 { tcon 0, tmod 1, tl0 2, tl1 3, th0 4, th1 5, due0 6, due1 7 }
+        "c51_timer2" Timer2 6 { t2con 0, rcap2l 1, rcap2h 2, tl2 3, th2 4, due2 5 }
+        "c51_sender" Sender 6 { position 0, value 2, counter 4 }
+        "c51_receiver" Receiver 8 { position 0, value 2, counter 4, votes 5, sample 6 }
+        "c51_serial" Serial 18 { scon 0, send 2, receive 8, half 16, received 17 }
+        "c51_interrupts" Interrupts 6 { ie 0, ip 1, seen 2, polled 3, low 4, high 5 }
+        "c51_answer" Answer 64 { code 0, device 8 }
+        "c51_line_answer" LineAnswer 2 { code 0, line 1 }
+        "c51_cycle_answer" CycleAnswer 64 { code 0, line 1, device 8 }
+        "c51_vector_answer" VectorAnswer 2 { code 0, vector 1 }
+        "c51_value_answer" ValueAnswer 2 { code 0, value 1 }
+        "c51_offer_answer" OfferAnswer 3 { code 0, offered 1, vector 2 }
+        "c51_look_answer" LookAnswer 16 { code 0, found 1, at 8 }
+    }
+}
+
+fn dist() -> PathBuf {
+    Path::new(env!("CARGO_MANIFEST_DIR")).join("../../dist")
+}
+
+/// Compiles a C program over the library and runs it; gives what it printed.
+fn run_c(name: &str, source: &Path) -> String {
+    let program = Path::new(env!("CARGO_TARGET_TMPDIR")).join(name);
+    let compiler = std::env::var("CC").unwrap_or("cc".to_string());
+    let compiled = Command::new(&compiler)
+        .args(["-std=c99", "-Wall", "-Wextra", "-Werror", "-O1", "-I"])
+        .arg(dist())
+        .arg(source)
+        .arg(dist().join("libc51.a"))
+        .arg("-o")
+        .arg(&program)
+        .output()
+        .unwrap_or_else(|why| panic!("{compiler}: {why}"));
+    assert!(compiled.status.success(), "{compiler}: {}", String::from_utf8_lossy(&compiled.stderr));
+    let ran = Command::new(&program).output().expect("the C program runs");
+    let printed = String::from_utf8(ran.stdout).expect("text");
+    assert!(ran.status.success(), "{name}: {}\n{printed}", ran.status);
+    printed
+}
+
+#[test]
+fn the_layout_in_rust() {
+    for place in places() {
+        assert_eq!(place.rust, place.expected, "{}", place.c);
+    }
+}
+
+#[test]
+fn the_layout_in_c() {
+    let places = places();
+    let mut source = String::from("#include <c51.h>\n#include <stdio.h>\n\nint main(void) {\n");
+    for place in &places {
+        source += &format!("    printf(\"%zu\\n\", {});\n", place.c);
+    }
+    source += "    return 0;\n}\n";
+    let file = Path::new(env!("CARGO_TARGET_TMPDIR")).join("layout.c");
+    std::fs::write(&file, source).expect("the C file is written");
+    let printed = run_c("layout_in_c", &file);
+    let numbers: Vec<&str> = printed.lines().collect();
+    assert_eq!(numbers.len(), places.len());
+    for (place, number) in places.iter().zip(numbers) {
+        assert_eq!(number, place.expected.to_string(), "{}", place.c);
+    }
+}
+
+/// Every field of the record is in the table: without one, the bytes that the fields and the known padding take would not add up.
+#[test]
+fn the_table_is_whole() {
+    let bytes: usize =
+        [size_of::<Timers>(), size_of::<Timer2>(), size_of::<Serial>(), size_of::<Interrupts>(), 2 + 7 + 8].iter().sum();
+    assert_eq!(bytes + 1, size_of::<Device>(), "one byte of padding before the cycle number");
+    let of_device = places().iter().filter(|place| place.c.starts_with("offsetof(c51_device,")).count();
+    assert_eq!(of_device, 35, "41 numbers, of which the 7 levels are one array");
+}
+
+#[test]
+fn every_call_from_c() {
+    let source = Path::new(env!("CARGO_MANIFEST_DIR")).join("tests/calls.c");
+    assert_eq!(run_c("calls_in_c", &source), "passed\n");
+}

@@ -1,0 +1,238 @@
+//! Fresh random records of any content and random lists of calls, beside those of the model's generator.
+use crate::call::Call;
+use crate::pair::{Pair, Tally};
+use c51::{address, Device, Interrupts, Receiver, Sender, Serial, Timer2, Timers, MAX_CYCLES, PINS_HIGH};
+use random::Rng;
+use std::path::Path;
+use std::process::Command;
+
+/// The styles of the model's generator.
+pub const STYLES: [&str; 12] =
+    ["timers", "serial0", "serial1", "serial2", "serial3", "t2baud", "interrupts", "raw", "bad", "rest", "long", "mixed"];
+
+/// A script of the model's generator, which stands at `generator`.
+pub fn script(generator: &Path, seed: u64, lines: u64, style: &str) -> Result<String, String> {
+    let ran = Command::new(generator)
+        .args([seed.to_string(), lines.to_string(), style.to_string()])
+        .output()
+        .map_err(|why| format!("{}: {why}", generator.display()))?;
+    if !ran.status.success() {
+        return Err(format!("gen {seed} {lines} {style}: {}", String::from_utf8_lossy(&ran.stderr)));
+    }
+    String::from_utf8(ran.stdout).map_err(|why| why.to_string())
+}
+
+/// The addresses of the registers.
+const REGISTERS: [u8; 16] = [
+    address::PCON,
+    address::TCON,
+    address::TMOD,
+    address::TL0,
+    address::TL1,
+    address::TH0,
+    address::TH1,
+    address::SCON,
+    address::SBUF,
+    address::IE,
+    address::IP,
+    address::T2CON,
+    address::RCAP2L,
+    address::RCAP2H,
+    address::TL2,
+    address::TH2,
+];
+
+/// A record of any bytes.
+fn any_record(rng: &mut Rng) -> Device {
+    let mut byte = || rng.byte();
+    let timers =
+        Timers { tcon: byte(), tmod: byte(), tl0: byte(), tl1: byte(), th0: byte(), th1: byte(), due0: byte(), due1: byte() };
+    let timer2 = Timer2 { t2con: byte(), rcap2l: byte(), rcap2h: byte(), tl2: byte(), th2: byte(), due2: byte() };
+    let interrupts = Interrupts { ie: byte(), ip: byte(), seen: byte(), polled: byte(), low: byte(), high: byte() };
+    let (send_position, send_counter) = (byte(), byte());
+    let (position, counter, votes, sample) = (byte(), byte(), byte(), byte());
+    let (kind, pcon, scon, half, received) = (byte(), byte(), byte(), byte(), byte());
+    Device {
+        kind,
+        pcon,
+        timers,
+        timer2,
+        serial: Serial {
+            scon,
+            send: Sender { position: send_position, value: rng.number() as u16, counter: send_counter },
+            receive: Receiver { position, value: rng.number() as u16, counter, votes, sample },
+            half,
+            received,
+        },
+        interrupts,
+        levels: std::array::from_fn(|_| rng.byte()),
+        cycle: rng.number(),
+    }
+}
+
+/// A record of any content within the ranges and masks: reachable or not, it is accepted.
+fn good_record(rng: &mut Rng) -> Device {
+    let mut d = any_record(rng);
+    d.kind = rng.pick(&[51, 52, 52]);
+    d.pcon &= 0x8F;
+    d.interrupts.ie &= 0xBF;
+    for field in [&mut d.interrupts.ip, &mut d.interrupts.seen, &mut d.interrupts.polled] {
+        *field &= 0x3F;
+    }
+    let last_position = if d.serial.scon >= 0x80 { 11 } else { 10 };
+    d.serial.send.position %= last_position + 1;
+    d.serial.receive.position %= last_position + 1;
+    d.serial.send.value &= 0x1FF;
+    d.serial.receive.value &= 0x1FF;
+    d.serial.send.counter &= 15;
+    d.serial.receive.counter &= 15;
+    d.serial.receive.votes %= 3;
+    let bits = [&mut d.serial.receive.sample, &mut d.serial.half, &mut d.timers.due0, &mut d.timers.due1, &mut d.timer2.due2];
+    for field in bits.into_iter().chain([&mut d.interrupts.low, &mut d.interrupts.high]).chain(&mut d.levels) {
+        *field &= 1;
+    }
+    if rng.one_in(2) {
+        for count in
+            [&mut d.timers.tl0, &mut d.timers.tl1, &mut d.timers.th0, &mut d.timer2.tl2, &mut d.timer2.th2, &mut d.timer2.rcap2h]
+        {
+            *count |= rng.pick(&[0xFF, 0xFC, 0xF0]);
+        }
+    }
+    if rng.one_in(8) {
+        d.cycle = u64::MAX - rng.below(4);
+    }
+    if d.kind == 51 {
+        d.interrupts.ie &= 0x9F;
+        d.interrupts.ip &= 0x1F;
+        d.timer2 = Timer2::default();
+    }
+    d
+}
+
+/// A good record with a field or two as another record has them, often just outside its range.
+fn spoilt_record(rng: &mut Rng) -> Device {
+    let mut d = good_record(rng);
+    let wild = any_record(rng);
+    for _ in 0..rng.between(1, 2) {
+        match rng.below(20) {
+            0 => d.kind = rng.pick(&[0, 50, 51, 52, 53, wild.kind]),
+            1 => d.pcon = wild.pcon,
+            2 => d.interrupts.ie = wild.interrupts.ie,
+            3 => d.interrupts.ip = rng.pick(&[0x1F, 0x20, 0x3F, 0x40, wild.interrupts.ip]),
+            4 => d.timer2 = Timer2 { due2: d.timer2.due2, ..wild.timer2 },
+            5 => d.timer2.due2 = rng.pick(&[1, 2, wild.timer2.due2]),
+            6 => d.timers.due0 = rng.pick(&[2, wild.timers.due0]),
+            7 => d.timers.due1 = rng.pick(&[2, wild.timers.due1]),
+            8 => d.serial.scon = wild.serial.scon,
+            9 => d.serial.send.position = rng.pick(&[10, 11, 12, wild.serial.send.position]),
+            10 => d.serial.send.value = rng.pick(&[511, 512, wild.serial.send.value]),
+            11 => d.serial.send.counter = rng.pick(&[15, 16, wild.serial.send.counter]),
+            12 => d.serial.receive.position = rng.pick(&[10, 11, 12, wild.serial.receive.position]),
+            13 => d.serial.receive.value = rng.pick(&[511, 512, wild.serial.receive.value]),
+            14 => d.serial.receive.counter = rng.pick(&[15, 16, wild.serial.receive.counter]),
+            15 => d.serial.receive.votes = rng.pick(&[2, 3, wild.serial.receive.votes]),
+            16 => d.serial.receive.sample = rng.pick(&[2, wild.serial.receive.sample]),
+            17 => d.serial.half = rng.pick(&[2, wild.serial.half]),
+            18 => {
+                let field = rng.pick(&[0, 1, 2, 3]);
+                let interrupts = &mut d.interrupts;
+                *[&mut interrupts.seen, &mut interrupts.polled, &mut interrupts.low, &mut interrupts.high][field] =
+                    rng.pick(&[2, 63, 64, wild.interrupts.seen]);
+            }
+            _ => d.levels[rng.below(7) as usize] = rng.pick(&[2, 255]),
+        }
+    }
+    d
+}
+
+/// A record of any content: half of them accepted.
+pub fn raw_record(rng: &mut Rng) -> Device {
+    match rng.below(8) {
+        0 => any_record(rng),
+        1..=3 => spoilt_record(rng),
+        _ => good_record(rng),
+    }
+}
+
+/// A pin byte, sometimes with bit 7 set.
+fn pins(rng: &mut Rng) -> u8 {
+    match rng.below(8) {
+        0 => rng.byte(),
+        1..=3 => PINS_HIGH,
+        _ => rng.byte() & PINS_HIGH,
+    }
+}
+
+/// A number of cycles that the model can step, or one that is refused.
+fn cycles(rng: &mut Rng, most: u64) -> u64 {
+    match rng.below(24) {
+        0 => 0,
+        1 => MAX_CYCLES + rng.between(1, 3),
+        2 => rng.number() | 1 << 63,
+        _ => rng.between(1, most),
+    }
+}
+
+fn trace(rng: &mut Rng, most: u64) -> Vec<u32> {
+    let bad = rng.one_in(4);
+    (0..rng.below(6))
+        .map(|_| {
+            let pins = if bad { pins(rng) } else { rng.byte() & PINS_HIGH };
+            let cycles = if bad && rng.one_in(4) { 0 } else { rng.between(1, most) };
+            u32::from(pins) << 24 | cycles as u32
+        })
+        .collect()
+}
+
+/// A register's address, sometimes any address.
+fn some_address(rng: &mut Rng) -> u8 {
+    if rng.one_in(8) {
+        rng.byte()
+    } else {
+        rng.pick(&REGISTERS)
+    }
+}
+
+/// Call `number`, of `CALLS`, with random arguments.
+fn call(rng: &mut Rng, number: u64, most: u64) -> Call {
+    match number {
+        0 => Call::Write(some_address(rng), rng.byte()),
+        1 => Call::Read(some_address(rng)),
+        2 => Call::Cycle(pins(rng)),
+        3 => Call::Jump(pins(rng), cycles(rng, most)),
+        4 => Call::Trace(trace(rng, most)),
+        5 => Call::Look(pins(rng), cycles(rng, most)),
+        6 => Call::Offer,
+        7 => Call::Take,
+        8 => Call::Return,
+        _ => Call::Reset(rng.pick(&[51, 52, 52, 53, 0, 255])),
+    }
+}
+
+const CALLS: u64 = 10;
+
+/// Runs every call on one raw record.
+pub fn run_record(rng: &mut Rng) -> Result<Tally, String> {
+    let pair = Pair::of_record(raw_record(rng));
+    let mut tally = Tally::default();
+    for number in 0..CALLS {
+        tally += pair.clone().run_calls(std::iter::once(Ok(call(rng, number, 8))))?;
+    }
+    Ok(tally)
+}
+
+/// Runs a random list from reset or from a raw record.
+pub fn run_list(rng: &mut Rng, length: u64) -> Result<Tally, String> {
+    let first = match rng.below(3) {
+        0 => Call::Load(Box::new(good_record(rng))),
+        _ => Call::Reset(rng.pick(&[51, 52])),
+    };
+    let most = rng.pick(&[3, 30, 300, 3000]);
+    let calls = (1..length).map(|_| {
+        let number = if rng.one_in(200) { CALLS } else { rng.below(CALLS - 1) };
+        let writes_more = number > 4 && rng.one_in(2);
+        call(rng, if writes_more { 0 } else { number }, most)
+    });
+    let calls: Vec<Call> = std::iter::once(first).chain(calls).collect();
+    Pair::default().run_calls(calls.into_iter().map(Ok))
+}

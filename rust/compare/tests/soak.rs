@@ -1,0 +1,25 @@
+//! The soak program: a small one, its seed, and its bad options.
+use std::process::{Command, Output};
+
+fn soak(line: &str) -> Output {
+    Command::new(env!("CARGO_BIN_EXE_soak")).args(line.split_whitespace()).output().expect("the program runs")
+}
+
+#[test]
+fn a_small_soak() {
+    let ran = soak("--cycles 100000 --records 500 --seed 3");
+    let out = String::from_utf8(ran.stdout).expect("text");
+    assert!(ran.status.success(), "{out}");
+    assert!(out.starts_with("seed 3\n500 raw records in 5000 calls, ") && out.ends_with(" s: no difference\n"), "{out}");
+}
+
+#[test]
+fn bad_options() {
+    for (line, message) in [("--hours 3", "unknown option --hours"), ("--seed", "--seed wants a number"), ("--cycles x", "not 'x'")]
+    {
+        let ran = soak(line);
+        assert_eq!(ran.status.code(), Some(2), "{line}");
+        let said = String::from_utf8_lossy(&ran.stderr).into_owned();
+        assert!(said.contains(message) && said.contains("usage: soak"), "{said}");
+    }
+}

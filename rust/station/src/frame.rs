@@ -1,0 +1,91 @@
+//! A frame on RXD: start bit 0, eight data bits from the lowest, stop bit 1, and noise in it.
+
+/// Cycles of a tick: Timer 1 overflows every third cycle (TH1 is FD), and with SMOD 0 every second overflow is a tick.
+pub const TICK: u64 = 6;
+/// Cycles of a bit: 16 ticks, 9600 baud.
+pub const BIT: u64 = 16 * TICK;
+/// Bits of a frame.
+pub const BITS: u64 = 10;
+/// The first of the three ticks of a bit at which the receiver samples the line.
+pub const FIRST_SAMPLE: u64 = 7;
+pub const SAMPLES: u64 = 3;
+
+/// RXD held at a level for some cycles.
+#[derive(Clone, Copy, PartialEq, Eq, Debug)]
+pub struct Stretch {
+    pub rxd: u8,
+    pub cycles: u64,
+}
+
+/// Samples of one bit that find the line at the other level.
+#[derive(Clone, Copy, PartialEq, Eq, Debug)]
+pub struct Noise {
+    /// 0 is the start bit, 9 the stop bit.
+    pub bit: u64,
+    /// The first sample that is flipped, 0 to 2, and how many are.
+    pub sample: u64,
+    pub samples: u64,
+}
+
+/// The line while a byte is sent.
+///
+/// The receiver samples bit b in ticks 16 b + 7, 8 and 9 after the tick that found the start bit, which comes 0 to 5 cycles into it.
+/// A flip that begins 7, 8 or 9 ticks into the bit and lasts one tick therefore meets exactly one sample, whatever the phase.
+pub fn frame(byte: u8, noise: Option<Noise>) -> Vec<Stretch> {
+    let mut line = Vec::new();
+    for bit in 0..BITS {
+        let rxd = match bit {
+            0 => 0,
+            9 => 1,
+            _ => byte >> (bit - 1) & 1,
+        };
+        match noise {
+            Some(noise) if noise.bit == bit => {
+                let before = (FIRST_SAMPLE + noise.sample) * TICK;
+                let flipped = noise.samples * TICK;
+                line.push(Stretch { rxd, cycles: before });
+                line.push(Stretch { rxd: 1 - rxd, cycles: flipped });
+                line.push(Stretch { rxd, cycles: BIT - before - flipped });
+            }
+            _ => line.push(Stretch { rxd, cycles: BIT }),
+        }
+    }
+    line
+}
+
+#[cfg(test)]
+mod tests {
+    use super::*;
+
+    fn levels(line: &[Stretch]) -> Vec<u8> {
+        line.iter().flat_map(|s| std::iter::repeat_n(s.rxd, s.cycles as usize)).collect()
+    }
+
+    #[test]
+    fn a_frame_without_noise() {
+        let bits: Vec<u8> = frame(0x35, None).iter().map(|stretch| stretch.rxd).collect();
+        assert_eq!(bits, [0, 1, 0, 1, 0, 1, 1, 0, 0, 1]);
+        assert_eq!(levels(&frame(0x35, None)).len() as u64, BIT * BITS);
+    }
+
+    #[test]
+    fn noise_flips_one_sample_at_every_phase() {
+        for bit in 0..BITS {
+            for sample in 0..SAMPLES {
+                let clean = levels(&frame(0xA5, None));
+                let noisy = levels(&frame(0xA5, Some(Noise { bit, sample, samples: 1 })));
+                assert_eq!(noisy.len(), clean.len());
+                for phase in 0..TICK {
+                    let sampled = (0..BITS * 16).filter(|tick| (FIRST_SAMPLE..FIRST_SAMPLE + SAMPLES).contains(&(tick % 16)));
+                    let flipped: Vec<u64> = sampled
+                        .filter(|tick| {
+                            let cycle = (phase + tick * TICK) as usize;
+                            noisy[cycle] != clean[cycle]
+                        })
+                        .collect();
+                    assert_eq!(flipped, [bit * 16 + FIRST_SAMPLE + sample]);
+                }
+            }
+        }
+    }
+}

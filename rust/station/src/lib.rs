@@ -1,0 +1,8 @@
+//! Stations that read tags: each an 80C52 at 11.0592 MHz whose serial port receives 9600 baud in mode 1, clocked by Timer 1.
+pub mod chip;
+pub mod frame;
+pub mod options;
+pub mod reader;
+pub mod report;
+pub mod run;
+pub mod vcd;

@@ -1,0 +1,68 @@
+//! Eleven stations side by side: prints each tag with its station and cycle, and checks that every digit is the one sent.
+//! Exit status: 0 all as sent, 1 a wrong tag, 2 a bad command line or a file that cannot be written.
+use station::options::{Options, USAGE};
+use station::{report, run};
+use std::fs::File;
+use std::io::{ErrorKind, Write};
+use std::process::exit;
+use std::time::Instant;
+
+fn fail(status: i32, message: &str) -> ! {
+    eprintln!("station: {message}");
+    exit(status)
+}
+
+/// A file of the command line, opened before the run.
+struct Output {
+    name: String,
+    file: File,
+}
+
+impl Output {
+    fn create(name: String) -> Output {
+        match File::create(&name) {
+            Ok(file) => Output { name, file },
+            Err(why) => fail(2, &format!("cannot write {name}: {why}")),
+        }
+    }
+
+    fn write(mut self, text: &str) {
+        if let Err(why) = self.file.write_all(text.as_bytes()) {
+            fail(2, &format!("cannot write {}: {why}", self.name));
+        }
+    }
+}
+
+fn print(text: &str) {
+    match std::io::stdout().write_all(text.as_bytes()) {
+        Err(why) if why.kind() != ErrorKind::BrokenPipe => fail(2, &format!("cannot print: {why}")),
+        _ => {}
+    }
+}
+
+fn main() {
+    let words = std::env::args_os().skip(1).map(|word| word.to_string_lossy().into_owned());
+    let options = Options::parse(words).unwrap_or_else(|why| fail(2, &format!("{why}\n{USAGE}")));
+    if options.help {
+        return print(&format!("{USAGE}\n"));
+    }
+    let csv = options.csv.map(Output::create);
+    let vcd = options.vcd.map(Output::create);
+    let tags = options.plan.tags;
+    let start = Instant::now();
+    let (rows, waveform) = run::run::<c51::Device>(&options.plan, vcd.is_some(), |done| {
+        if done == tags || done % tags.div_ceil(10) == 0 {
+            eprintln!("{done} of {tags} tags, {:.1} s", start.elapsed().as_secs_f64());
+        }
+    });
+    print(&report::table(&rows));
+    if let Some(csv) = csv {
+        csv.write(&report::csv(&rows));
+    }
+    if let (Some(vcd), Some(waveform)) = (vcd, waveform) {
+        vcd.write(waveform.text());
+    }
+    if !rows.iter().all(run::Row::right) {
+        fail(1, "a tag is not the one sent");
+    }
+}

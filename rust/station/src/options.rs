@@ -1,0 +1,150 @@
+//! The command line of the station program.
+use crate::chip::CYCLES_A_SECOND;
+use crate::frame::SAMPLES;
+use crate::run::{Plan, DIGITS};
+
+pub const USAGE: &str = "usage: station [OPTIONS]
+  --tags N        tags to send in all, in turn over the stations (33)
+  --gap SECONDS   idle time before each tag, 0.0001 to 1000000 (1)
+  --stations N    stations side by side, 1 to 1000 (11)
+  --seed S        seed of the tags, pauses and noise (1)
+  --noise N       samples flipped in a noisy bit, 0 to 3 (1); from 2 on the noise wins
+  --tag DIGITS..  tags of 15 digits to send in turn, in place of random ones
+  --csv FILE      write the table as CSV too
+  --vcd FILE      write a waveform of station 1 around each frame, for GTKWave
+  --help          print this";
+
+const MOST_STATIONS: u64 = 1000;
+const LONGEST_GAP: f64 = 1_000_000.0;
+const SHORTEST_GAP: f64 = 0.0001;
+
+#[derive(Clone, PartialEq, Debug)]
+pub struct Options {
+    pub plan: Plan,
+    pub csv: Option<String>,
+    pub vcd: Option<String>,
+    pub help: bool,
+}
+
+fn number(name: &str, value: &str, least: u64, most: u64) -> Result<u64, String> {
+    let digits = !value.is_empty() && value.bytes().all(|b| b.is_ascii_digit());
+    match value.parse() {
+        Ok(n) if digits && (least..=most).contains(&n) => Ok(n),
+        _ if most == u64::MAX => Err(format!("{name} wants a whole number from {least} on, not '{value}'")),
+        _ => Err(format!("{name} wants a whole number from {least} to {most}, not '{value}'")),
+    }
+}
+
+/// The gap in cycles.
+fn gap(value: &str) -> Result<u64, String> {
+    let plain = value.bytes().all(|b| b.is_ascii_digit() || b == b'.');
+    match value.parse::<f64>() {
+        Ok(seconds) if plain && (SHORTEST_GAP..=LONGEST_GAP).contains(&seconds) => {
+            Ok((seconds * CYCLES_A_SECOND as f64).round() as u64)
+        }
+        _ => Err(format!("--gap wants seconds, {SHORTEST_GAP} to {LONGEST_GAP}, not '{value}'")),
+    }
+}
+
+fn tag(value: String) -> Result<String, String> {
+    if value.len() == DIGITS && value.bytes().all(|b| b.is_ascii_digit()) {
+        Ok(value)
+    } else {
+        Err(format!("a tag has {DIGITS} digits, not '{value}'"))
+    }
+}
+
+impl Options {
+    pub fn parse(words: impl Iterator<Item = String>) -> Result<Options, String> {
+        let plan = Plan { stations: 11, tags: 0, gap: CYCLES_A_SECOND, seed: 1, noise: 1, chosen: Vec::new() };
+        let mut options = Options { plan, csv: None, vcd: None, help: false };
+        let mut tags = None;
+        let mut words = words.peekable();
+        while let Some(name) = words.next() {
+            if name == "--help" {
+                options.help = true;
+                continue;
+            }
+            let known = ["--tags", "--gap", "--stations", "--seed", "--noise", "--tag", "--csv", "--vcd"];
+            if !known.contains(&name.as_str()) {
+                return Err(format!("unknown option '{name}'"));
+            }
+            let value = words.next_if(|word| !word.starts_with("--")).ok_or(format!("{name} wants a value"))?;
+            let plan = &mut options.plan;
+            match name.as_str() {
+                "--tags" => tags = Some(number(&name, &value, 1, u64::MAX)?),
+                "--gap" => plan.gap = gap(&value)?,
+                "--stations" => plan.stations = number(&name, &value, 1, MOST_STATIONS)? as usize,
+                "--seed" => plan.seed = number(&name, &value, 0, u64::MAX)?,
+                "--noise" => plan.noise = number(&name, &value, 0, SAMPLES)?,
+                "--csv" => options.csv = Some(value),
+                "--vcd" => options.vcd = Some(value),
+                _ => {
+                    plan.chosen.push(tag(value)?);
+                    while let Some(value) = words.next_if(|word| !word.starts_with("--")) {
+                        plan.chosen.push(tag(value)?);
+                    }
+                }
+            }
+        }
+        let of_chosen = if options.plan.chosen.is_empty() { 33 } else { options.plan.chosen.len() as u64 };
+        options.plan.tags = tags.unwrap_or(of_chosen);
+        Ok(options)
+    }
+}
+
+#[cfg(test)]
+mod tests {
+    use super::*;
+
+    fn parse(line: &str) -> Result<Options, String> {
+        Options::parse(line.split_whitespace().map(String::from))
+    }
+
+    #[test]
+    fn good_lines() {
+        let options = parse("").unwrap();
+        assert_eq!((options.plan.stations, options.plan.tags, options.plan.gap), (11, 33, 921_600));
+        let options = parse("--tags 5 --gap 0.5 --stations 2 --seed 9 --noise 0 --csv a.csv --vcd b.vcd").unwrap();
+        assert_eq!(options.plan, Plan { stations: 2, tags: 5, gap: 460_800, seed: 9, noise: 0, chosen: vec![] });
+        assert_eq!((options.csv.as_deref(), options.vcd.as_deref()), (Some("a.csv"), Some("b.vcd")));
+        let options = parse("--tag 123456789012345 000000000000000 --seed 2 --tag 999999999999999").unwrap();
+        assert_eq!(options.plan.tags, 3);
+        assert_eq!(options.plan.chosen, ["123456789012345", "000000000000000", "999999999999999"]);
+        assert_eq!(parse("--tag 123456789012345 --tags 7").unwrap().plan.tags, 7);
+        assert!(parse("--help").unwrap().help);
+    }
+
+    #[test]
+    fn bad_lines_are_named() {
+        let lines = [
+            ("--tag 12345678901234", "a tag has 15 digits, not '12345678901234'"),
+            ("--tag 1234567890123456", "a tag has 15 digits"),
+            ("--tag 12345678901234x", "a tag has 15 digits"),
+            ("--tag 123456789012345 12", "a tag has 15 digits, not '12'"),
+            ("--gap 0", "--gap wants seconds"),
+            ("--gap 0.0", "--gap wants seconds"),
+            ("--gap -1", "--gap wants seconds"),
+            ("--gap 1e3", "--gap wants seconds"),
+            ("--gap nan", "--gap wants seconds"),
+            ("--gap 1000001", "--gap wants seconds"),
+            ("--gap .", "--gap wants seconds"),
+            ("--tags 0", "--tags wants a whole number"),
+            ("--tags +5", "--tags wants a whole number"),
+            ("--tags 99999999999999999999", "--tags wants a whole number"),
+            ("--stations 0", "--stations wants a whole number from 1 to 1000"),
+            ("--stations 1001", "--stations wants a whole number"),
+            ("--noise 4", "--noise wants a whole number from 0 to 3"),
+            ("--seed x", "--seed wants a whole number"),
+            ("--tags", "--tags wants a value"),
+            ("--csv --vcd x", "--csv wants a value"),
+            ("--tag", "--tag wants a value"),
+            ("--frequency 12", "unknown option '--frequency'"),
+            ("5", "unknown option '5'"),
+        ];
+        for (line, message) in lines {
+            let why = parse(line).unwrap_err();
+            assert!(why.contains(message), "{line}: {why}");
+        }
+    }
+}

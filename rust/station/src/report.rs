@@ -1,0 +1,55 @@
+//! The tags that were read, as a table and as CSV.
+use crate::chip::CYCLES_A_SECOND;
+use crate::run::{Row, DIGITS};
+
+/// The time of a cycle in seconds.
+fn seconds(cycle: u64) -> f64 {
+    cycle as f64 / CYCLES_A_SECOND as f64
+}
+
+fn verdict(row: &Row) -> String {
+    if row.right() {
+        "as sent".to_string()
+    } else {
+        format!("WRONG: sent {}", row.sent)
+    }
+}
+
+pub fn table(rows: &[Row]) -> String {
+    let mut text = format!("station {:>16} {:>14}  {:<15} noisy samples  verdict\n", "cycle", "seconds", "tag");
+    for row in rows {
+        text += &format!(
+            "{:>7} {:>16} {:>14.6}  {:<15} {:>13}  {}\n",
+            row.station,
+            row.cycle,
+            seconds(row.cycle),
+            row.tag,
+            row.noisy_samples,
+            verdict(row)
+        );
+    }
+    let wrong = rows.iter().filter(|row| !row.right()).count();
+    let noisy: u64 = rows.iter().map(|row| row.noisy_samples).sum();
+    let (tags, digits) = (rows.len(), rows.len() * DIGITS);
+    text += &match wrong {
+        0 => format!("{tags} tags, {digits} digits, all as sent; {noisy} noisy samples\n"),
+        _ => format!("{tags} tags, {wrong} of them WRONG; {noisy} noisy samples\n"),
+    };
+    text
+}
+
+pub fn csv(rows: &[Row]) -> String {
+    let mut text = String::from("station,cycle,seconds,tag,noisy_samples,verdict\n");
+    for row in rows {
+        text += &format!(
+            "{},{},{:.6},{},{},{}\n",
+            row.station,
+            row.cycle,
+            seconds(row.cycle),
+            row.tag,
+            row.noisy_samples,
+            verdict(row)
+        );
+    }
+    text
+}

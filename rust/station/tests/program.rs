@@ -1,0 +1,101 @@
+//! The program: its table, CSV, progress, exit statuses and messages.
+use std::path::{Path, PathBuf};
+use std::process::{Command, Output};
+
+fn station(line: &str) -> Output {
+    Command::new(env!("CARGO_BIN_EXE_station")).args(line.split_whitespace()).output().expect("the program runs")
+}
+
+fn text(bytes: &[u8]) -> String {
+    String::from_utf8(bytes.to_vec()).expect("text")
+}
+
+fn scratch(name: &str) -> PathBuf {
+    Path::new(env!("CARGO_TARGET_TMPDIR")).join(name)
+}
+
+#[test]
+fn eleven_stations_read_what_was_sent() {
+    let ran = station("--tags 22 --gap 0.01");
+    let out = text(&ran.stdout);
+    assert!(ran.status.success(), "{out}");
+    let rows: Vec<Vec<&str>> = out.lines().skip(1).take(22).map(|line| line.split_whitespace().collect()).collect();
+    for number in 1..=11 {
+        assert_eq!(rows.iter().filter(|row| row[0] == number.to_string()).count(), 2, "station {number}");
+    }
+    let cycles: Vec<u64> = rows.iter().map(|row| row[1].parse().unwrap()).collect();
+    assert!(cycles.is_sorted() && cycles[0] > 9_216 + 16 * 960 - 96);
+    assert!(rows.iter().all(|row| row[3].len() == 15 && row[5..] == ["as", "sent"]));
+    let noisy: u64 = rows.iter().map(|row| row[4].parse::<u64>().unwrap()).sum();
+    assert!(noisy > 20);
+    assert_eq!(out.lines().last(), Some(format!("22 tags, 330 digits, all as sent; {noisy} noisy samples").as_str()));
+    let progress = text(&ran.stderr);
+    assert!(progress.starts_with("3 of 22 tags,") && progress.contains("\n22 of 22 tags,"), "{progress}");
+}
+
+#[test]
+fn the_csv_is_the_table() {
+    let file = scratch("tags.csv");
+    let ran = station(&format!("--tags 5 --gap 0.02 --stations 2 --csv {}", file.display()));
+    assert!(ran.status.success());
+    let table = text(&ran.stdout);
+    let csv = std::fs::read_to_string(&file).unwrap();
+    assert_eq!(csv.lines().next(), Some("station,cycle,seconds,tag,noisy_samples,verdict"));
+    assert_eq!(csv.lines().count(), 6);
+    for (row, line) in table.lines().skip(1).zip(csv.lines().skip(1)) {
+        assert_eq!(row.split_whitespace().collect::<Vec<&str>>().join(","), line.replace("as sent", "as,sent"));
+    }
+}
+
+#[test]
+fn a_seed_repeats() {
+    let first = station("--tags 4 --gap 0.01 --seed 5");
+    assert_eq!(first.stdout, station("--tags 4 --gap 0.01 --seed 5").stdout);
+    assert_ne!(first.stdout, station("--tags 4 --gap 0.01 --seed 6").stdout);
+}
+
+#[test]
+fn chosen_tags() {
+    let ran = station("--gap 0.01 --stations 1 --tag 123456789012345 000000000000000 --noise 0");
+    let out = text(&ran.stdout);
+    let tags: Vec<&str> = out.lines().skip(1).take(2).map(|line| line.split_whitespace().nth(3).unwrap()).collect();
+    assert_eq!(tags, ["123456789012345", "000000000000000"]);
+    assert!(out.ends_with("2 tags, 30 digits, all as sent; 0 noisy samples\n"));
+}
+
+#[test]
+fn a_wrong_digit_is_found() {
+    let ran = station("--tags 11 --gap 0.01 --noise 2");
+    assert_eq!(ran.status.code(), Some(1));
+    assert!(text(&ran.stdout).contains("WRONG: sent "));
+    assert!(text(&ran.stderr).ends_with("station: a tag is not the one sent\n"));
+}
+
+#[test]
+fn bad_command_lines() {
+    let lines = [
+        ("--tag 1234", "a tag has 15 digits, not '1234'"),
+        ("--tag 12345678901234x", "a tag has 15 digits, not '12345678901234x'"),
+        ("--gap 0", "--gap wants seconds"),
+        ("--frequency 12", "unknown option '--frequency'"),
+        ("--tags", "--tags wants a value"),
+        ("--stations 0", "--stations wants a whole number"),
+    ];
+    for (line, message) in lines {
+        let ran = station(line);
+        assert_eq!(ran.status.code(), Some(2), "{line}");
+        let said = text(&ran.stderr);
+        assert!(said.contains(message) && said.contains("usage: station"), "{line}: {said}");
+        assert!(ran.stdout.is_empty());
+    }
+    let ran = station(&format!("--csv {}", scratch("no-such-folder/tags.csv").display()));
+    assert_eq!(ran.status.code(), Some(2));
+    assert!(text(&ran.stderr).contains("cannot write"));
+}
+
+#[test]
+fn help() {
+    let ran = station("--help");
+    assert!(ran.status.success());
+    assert!(text(&ran.stdout).starts_with("usage: station"));
+}
