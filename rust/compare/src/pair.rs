@@ -38,6 +38,10 @@ fn same<T: PartialEq + Debug>(library: T, model: T) -> Result<(), String> {
     }
 }
 
+/// The most cycles of a call while a frame is under way, and the most of any jump.
+const REACH: u64 = 1 << 14;
+const MAX_CYCLES: u64 = 1 << 40;
+
 impl Pair {
     pub fn of_record(device: Device) -> Pair {
         Pair { library: device, model: to_model(&device) }
@@ -46,6 +50,7 @@ impl Pair {
     /// Runs a call on both and compares the answer and every field; gives the cycles that passed. A difference comes as a text with
     /// a script that shows it.
     pub fn run(&mut self, call: &Call) -> Result<u64, String> {
+        let call = &self.within_reach(call);
         let before = self.library;
         self.compare(call).map_err(|what| {
             format!(
@@ -57,6 +62,24 @@ impl Pair {
             Call::Cycle(_) | Call::Jump(..) | Call::Trace(_) => self.library.cycle.wrapping_sub(before.cycle),
             _ => 0,
         })
+    }
+
+    /// A frame under way makes every cycle a round, also where it waits on a stopped clock, and the model leaps over those: a call
+    /// of very many such cycles is run over fewer, on both.
+    fn within_reach(&self, call: &Call) -> Call {
+        let serial = &self.library.serial;
+        if serial.send.position == 0 && serial.receive.position == 0 {
+            return call.clone();
+        }
+        let fewer = |n: u64| if (REACH..=MAX_CYCLES).contains(&n) { n % REACH } else { n };
+        match call {
+            &Call::Jump(pins, n) => Call::Jump(pins, fewer(n)),
+            &Call::Look(pins, n) => Call::Look(pins, fewer(n)),
+            Call::Trace(entries) => Call::Trace(
+                entries.iter().map(|&e| if u64::from(e & 0xff_ffff) < REACH { e } else { e & 0xff00_0fff | 1 }).collect(),
+            ),
+            _ => call.clone(),
+        }
     }
 
     fn compare(&mut self, call: &Call) -> Result<(), String> {
