@@ -45,6 +45,38 @@ fn raw_records() {
     assert!(accepted > RECORDS / 3 && accepted < RECORDS * 2 / 3, "{accepted} of {RECORDS} accepted");
 }
 
+/// Devices started alike and taken through the same cycles by one jump and by other cuts into jumps, traces and single cycles are
+/// equal in every field.
+#[test]
+fn any_cut_ends_alike() {
+    for seed in 0..3_000 {
+        let rng = &mut Rng::part(6, seed);
+        let mut whole = raw_record(rng);
+        if !whole.accepts() {
+            continue;
+        }
+        let mut cut = whole;
+        let pins = rng.byte() & 0x7f;
+        let n = rng.between(1, 3_000);
+        whole.jump(pins, n).unwrap();
+        let mut left = n;
+        while left > 0 {
+            let part = rng.between(1, left.min(700));
+            match rng.below(3) {
+                0 => cut.jump(pins, part).unwrap(),
+                1 => cut.trace(&[u32::from(pins) << 24 | part as u32]).unwrap(),
+                _ => {
+                    for _ in 0..part {
+                        cut.cycle(pins).unwrap();
+                    }
+                }
+            }
+            left -= part;
+        }
+        assert_eq!(cut, whole, "record {seed}: {n} cycles with pin byte {pins}");
+    }
+}
+
 /// A difference in any one of the 41 numbers is found, and the text has the script that shows it.
 #[test]
 fn a_difference_in_any_field_is_found() {
