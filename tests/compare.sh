@@ -3,7 +3,7 @@
 # model's generator, on raw records, and on damaged scripts. SEEDS scripts of LINES lines for each style, seeds FIRST and up.
 cd "$(dirname "$0")/.." || exit 1
 seeds=${1:-5}
-lines=${2:-2600}
+lines=${2:-2800}
 first=${3:-1}
 
 (cd model && cargo build --release --offline --quiet) || exit 1
@@ -35,8 +35,16 @@ for style in timers serial0 serial1 serial2 serial3 t2baud interrupts raw bad re
     seed=$first
     while [ "$seed" -lt $((first + seeds)) ]; do
         model/target/release/gen "$seed" "$lines" "$style" >"$work/script"
-        # a send that waits on a stopped clock makes every cycle of a jump a round, and this style jumps 2^40 cycles: no SBUF writes
-        if [ "$style" = rest ]; then sed -i '/^W 153 /d' "$work/script"; fi
+        # a frame that waits on a stopped clock makes every cycle of a jump a round: the styles that jump up to 2^40 cycles have no
+        # SBUF writes here, and the others no call of more than a million cycles
+        case $style in
+        rest | long) sed -i '/^W 153 /d' "$work/script" ;;
+        *)
+            awk '/^[JL]/ && $3 > 1000000 && $3 <= 1099511627776 { next }
+                /^T/ { n = 0; for (i = 3; i <= NF; i++) n += $i % 16777216; if (n > 1000000) next }
+                { print }' "$work/script" >"$work/short" && mv "$work/short" "$work/script"
+            ;;
+        esac
         same "$style, seed $seed"
         # the same script with bytes changed, dropped and added; without long jumps, looks and traces, which a lost write could make
         # runs of single cycles
