@@ -14,6 +14,7 @@ test:
 # The C library: dist/libc51.a and dist/c51.h.
 lib:
 	@mkdir -p dist
+	@echo 'proving and building the library, some minutes the first time; log in dist/build.log'
 	@rt staticlib c51_lent >dist/build.log 2>&1 || { cat dist/build.log; exit 1; }
 	@cp target/staticlib/libc51_lent.a dist/libc51.a && cp include/c51.h dist/c51.h
 
@@ -22,8 +23,10 @@ replay:
 	rt check replay_main
 
 # replay_main against the model on fresh random scripts; SEED=N takes a seed again.
-SEED ?= $(shell date +%s)
-compare: replay
+ifndef SEED
+SEED := $(shell date +%s)
+endif
+compare: lib replay
 	@echo "seed $(SEED)"
 	@sh tests/compare.sh 8 4000 $(SEED)
 

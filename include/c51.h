@@ -7,7 +7,8 @@
  *
  * A call answers a code: 0, or the number of the refusal. The lowest number applies, except that in a trace 5 goes first after 1,
  * then the first bad entry, 4 before 8 within it. A refused call leaves the record as it was, and every other number of its answer
- * is 0. Each call but c51_reset and c51_accepts first judges the record, so that each of them may answer C51_BAD_RECORD.
+ * is 0; of a device in it, see the answers below. Each call but c51_reset and c51_accepts first judges the record, so that each of
+ * them may answer C51_BAD_RECORD.
  */
 #ifndef C51_H
 #define C51_H
@@ -139,9 +140,12 @@ typedef struct {
     uint64_t cycle;    /* the cycle number, which wraps */
 } c51_device;
 
+/* The record is laid out as the library has it; with another layout, as of packed structs, this does not compile. */
+typedef char c51_device_layout[sizeof(c51_device) == 56 && offsetof(c51_device, cycle) == 48 ? 1 : -1];
+
 /* ---------------------------------------------------------------- the answers */
 
-/* A code and a device. */
+/* A code and the device after the call. Of a refused call it is the device as given, of a refused reset a record all zero. */
 typedef struct {
     uint8_t code;
     c51_device device;
@@ -153,7 +157,7 @@ typedef struct {
     uint8_t line;
 } c51_line_answer;
 
-/* A cycle by value. */
+/* A cycle by value. Of a refused one the device is the one given. */
 typedef struct {
     uint8_t code;
     uint8_t line;
@@ -172,14 +176,14 @@ typedef struct {
     uint8_t value;
 } c51_value_answer;
 
-/* An offer: offered is 1 and vector the vector, or both are 0. */
+/* An offer: offered is 1 and vector is the vector; or both are 0. */
 typedef struct {
     uint8_t code;
     uint8_t offered;
     uint8_t vector;
 } c51_offer_answer;
 
-/* A look ahead: found is 1 and at the cycle, from 1, or both are 0. */
+/* A look ahead: found is 1 and at is the cycle, counted from 1; or both are 0. */
 typedef struct {
     uint8_t code;
     uint8_t found;
@@ -187,16 +191,17 @@ typedef struct {
 } c51_look_answer;
 
 /* ---------------------------------------------------------------- calls that alter a device in place
- * The pointer points to a device that nothing else reads or writes during the call. */
+ * The pointer is not NULL, is aligned as the type is, and nothing else reads or writes the device during the call. */
 
-/* Writes a register: its implemented bits are stored. SBUF starts a sending; SCON with another mode rests both positions.
- * Refusals: 1, 3. */
+/* Writes a register: its implemented bits are stored. SBUF starts a sending; SCON with another mode rests both positions, and in mode 0
+ * with REN 1 and RI 0 it asks to receive. Refusals: 1, 3. */
 uint8_t c51_write(c51_device *device, uint8_t address, uint8_t value);
 
 /* One machine cycle. Refusals: 1, 4, 9. */
 c51_line_answer c51_cycle(c51_device *device, uint8_t pins);
 
-/* n cycles, 0 to C51_MAX_CYCLES, with one pin byte; long quiet stretches cost next to nothing. Refusals: 1, 4, 5, 9. */
+/* n cycles, 0 to C51_MAX_CYCLES, with one pin byte. A jump costs by its rounds: one for each busy cycle (an overflow, a frame under way, a
+ * flag that changes) and one for each quiet run between them; 2^40 busy cycles take about a day. Refusals: 1, 4, 5, 9. */
 uint8_t c51_jump(c51_device *device, uint8_t pins, uint64_t n);
 
 /* Takes the interrupt that is offered: its level is in service, its bit leaves seen and polled, and TF0, TF1 or an edge-triggered
@@ -215,14 +220,14 @@ c51_value_answer c51_read(c51_device device, uint8_t address);
 c51_offer_answer c51_offer(c51_device device);
 
 /* The first of the next n cycles in which one of TF0, TF1, IE0, IE1, RI, TI, TF2, EXF2 goes from 0 to 1 under this pin byte, or none.
- * Refusals: 1, 4, 5, 9. */
+ * Refusals: 1, 4, 5. No cycle of an accepted device meets 9, so that it may stop there. */
 c51_look_answer c51_look(c51_device device, uint8_t pins, uint64_t n);
 
 /* Return from interrupt: the high level leaves service, or else the low one. Refusals: 1, 7. */
 c51_answer c51_return(c51_device device);
 
 /* Runs a trace of count entries, checked whole before it runs: the pin byte in the top 8 bits of an entry, 1 to 16,777,215 cycles in the
- * other 24. entries points to count numbers and is not NULL, where count is 0 neither. Refusals: 1, 5, 4, 8, 9. */
+ * other 24. entries points to count numbers and is never NULL, even where count is 0. Refusals: 1, 5, 4, 8, 9. */
 c51_answer c51_trace(c51_device device, const uint32_t *entries, size_t count);
 
 /* 1 where the record is accepted, 0 where every call but reset refuses it by 1. */

@@ -1,21 +1,28 @@
 #!/bin/sh
-# The cards that are run and not proved: each script of tests/cards through replay_main gives the answers that document 01 states.
+# The cards that are run and not proved, and the examples: each script through replay_main gives the answers that stand beside it, which
+# document 01 states.
 cd "$(dirname "$0")/.." || exit 1
-replay=target/bin/replay_main
-[ -x "$replay" ] || { echo "cards: $replay is missing; run 'make replay'"; exit 1; }
-good=0
-bad=0
-got=$(mktemp) || exit 1
-trap 'rm -f "$got"' EXIT
-for script in tests/cards/*.txt; do
-    "$replay" <"$script" >"$got"
-    if cmp -s "$got" "${script%.txt}.answers"; then
-        good=$((good + 1))
-    else
-        bad=$((bad + 1))
-        printf 'cards: %s differs, first at:\n' "$script"
-        diff "${script%.txt}.answers" "$got" | head -n 6
-    fi
+. tests/replay.sh
+
+for script in tests/cards/*.txt examples/*.txt; do
+    answered "$script" "$script" "${script%.txt}.answers"
 done
-printf '%s passed, %s failed\n' "$good" "$bad"
-[ "$bad" = 0 ]
+
+# trace COUNT FIRST: a trace of entries of one cycle with all pins high, but for the first
+trace() { awk -v n="$1" -v first="$2" 'BEGIN { printf "T %d %s", n, first; while (--n > 0) printf " 2130706433"; print "" }'; }
+
+# The longest trace passes. With an entry more it is refused by 5, also where an entry is bad, and the device stays.
+for kind in 51 52; do
+    {
+        echo "R $kind"
+        trace 65536 2130706433
+        echo D
+        trace 65537 2130706433
+        trace 65537 2147483648
+        echo D
+    } >"$work/script"
+    after="$kind 0 0 0 0 0 0 0 0 0 0 0 0 0 0 0 0 0 0 0 0 0 0 0 1 0 0 0 0 0 0 0 0 65536 1 1 1 1 1 1 1"
+    printf '%s\n' '0 0' '0 0' "$after" '5 0' '5 0' "$after" >"$work/answers"
+    answered "the longest trace, kind $kind" "$work/script" "$work/answers"
+done
+verdict

@@ -1,71 +1,80 @@
 #!/bin/sh
-# compare.sh [SEEDS [LINES [FIRST]]]: replay_main against the model by other hands, on random call scripts of every style of the
-# model's generator, on raw records, and on damaged scripts. SEEDS scripts of LINES lines for each style, seeds FIRST and up.
+# compare.sh [SEEDS [LINES [FIRST]]]: replay_main against the model by other hands, on the scripts of the model's generator, of every
+# style, and on the same scripts damaged. SEEDS scripts of LINES lines for each style, seeds FIRST and up. Only a call that is out of
+# reach is shortened (rust/compare/src/reach.rs); all else is as generated. Without arguments it is the fixed run.
 cd "$(dirname "$0")/.." || exit 1
-seeds=${1:-5}
+least_calls=300000
+for number in "$@"; do
+    case $number in
+    0* | *[!0-9]* | '') echo "compare: wants whole numbers from 1 on, not '$number'" >&2; exit 2 ;;
+    esac
+done
+[ $# -le 3 ] || { echo 'compare: wants at most three numbers, SEEDS, LINES and FIRST' >&2; exit 2; }
+seeds=${1:-9}
 lines=${2:-2800}
 first=${3:-1}
 
+. tests/replay.sh
 (cd model && cargo build --release --offline --quiet) || exit 1
-replay=target/bin/replay_main
-[ -x "$replay" ] || { echo "compare: $replay is missing; run 'make replay'"; exit 1; }
-work=$(mktemp -d) || exit 1
-trap 'rm -rf "$work"' EXIT
-
-good=0
-bad=0
+(cd rust && cargo build --release --offline --quiet --bin reach) || exit 1
+gen=model/target/release/gen
+runner=model/target/release/runner
+reach=rust/target/release/reach
+styles=$("$gen" 2>&1 | sed -n 's/.*styles: //p')
+[ -n "$styles" ] || { echo 'compare: the generator names no styles'; exit 1; }
 calls=0
+shortened=0
+compared=0
 
-# the same script through both: every answer is the same
-same() {
-    model/target/release/runner <"$work/script" >"$work/model" 2>/dev/null
-    "$replay" <"$work/script" >"$work/ours"
-    if cmp -s "$work/model" "$work/ours"; then
-        good=$((good + 1))
-    else
-        bad=$((bad + 1))
-        printf 'compare: %s differs, first at:\n' "$1"
-        diff "$work/model" "$work/ours" | head -n 6
-        cp "$work/script" "target/differs.$bad.txt"
-    fi
-    calls=$((calls + $(wc -l <"$work/script")))
+# Half of the lines of a script with bytes dropped or added, or in small letters.
+damage() {
+    awk -v seed="$1" 'BEGIN { srand(seed) } {
+        r = int(rand() * 12); at = 1 + int(rand() * length($0))
+        if (r == 0) print substr($0, 1, at - 1) substr($0, at + 1)
+        else if (r == 1) print substr($0, 1, at) " " substr($0, at + 1)
+        else if (r == 2) print substr($0, 1, at) "x" substr($0, at + 1)
+        else if (r == 3) print $0 " 7"
+        else if (r == 4) print $0 "99999999999999999999"
+        else if (r == 5) print tolower($0)
+        else print $0 }'
 }
 
-for style in timers serial0 serial1 serial2 serial3 t2baud interrupts raw bad rest long mixed; do
+# same NAME SCRIPT: the script within reach gets the same answers from both. The calls are its lines but faults, dumps and set records.
+same() {
+    if ! "$reach" <"$2" >"$work/script"; then
+        fault "$1" 'reach fails'
+    elif [ "$(wc -l <"$work/script")" != "$lines" ]; then
+        fault "$1" "$(wc -l <"$work/script") lines, not $lines"
+    elif ! "$runner" <"$work/script" >"$work/model" 2>"$work/faults"; then
+        fault "$1" 'the model fails'
+    elif answered "$1" "$work/script" "$work/model"; then
+        compared=$((compared + lines))
+        shortened=$((shortened + $(diff "$2" "$work/script" | grep -c '^<')))
+        calls=$((calls + $(awk 'NR == FNR { fault[FNR] = /^\?/; next } !fault[FNR] && !/^[DS]/ { n++ } END { print n + 0 }' \
+            "$work/model" "$work/script")))
+        return
+    fi
+    cp "$work/script" "target/differs.$bad.txt"
+}
+
+for style in $styles; do
     seed=$first
     while [ "$seed" -lt $((first + seeds)) ]; do
-        model/target/release/gen "$seed" "$lines" "$style" >"$work/script"
-        # a frame that waits on a stopped clock makes every cycle of a jump a round: the styles that jump up to 2^40 cycles have no
-        # SBUF writes here, and the others no call of more than a million cycles
-        case $style in
-        rest | long) sed -i '/^W 153 /d' "$work/script" ;;
-        *)
-            awk '/^[JL]/ && $3 > 1000000 && $3 <= 1099511627776 { next }
-                /^T/ { n = 0; for (i = 3; i <= NF; i++) n += $i % 16777216; if (n > 1000000) next }
-                { print }' "$work/script" >"$work/short" && mv "$work/short" "$work/script"
-            ;;
-        esac
-        same "$style, seed $seed"
-        # the same script with bytes changed, dropped and added; without long jumps, looks and traces, which a lost write could make
-        # runs of single cycles
-        awk -v seed="$seed" 'BEGIN { srand(seed) }
-            /^[JL]/ && $3 > 3000 { next }
-            /^T/ { n = 0; for (i = 3; i <= NF; i++) n += $i % 16777216; if (n > 3000) next }
-            {
-            r = int(rand() * 12); at = 1 + int(rand() * length($0))
-            if ($1 == "T" && r < 2) r = 3
-            if (r == 0) print substr($0, 1, at - 1) substr($0, at + 1)
-            else if (r == 1) print substr($0, 1, at) " " substr($0, at + 1)
-            else if (r == 2) print substr($0, 1, at) "x" substr($0, at + 1)
-            else if (r == 3) print $0 " 7"
-            else if (r == 4) print $0 "99999999999999999999"
-            else if (r == 5) print tolower($0)
-            else print $0 }' "$work/script" >"$work/damaged" && mv "$work/damaged" "$work/script"
-        same "$style, seed $seed, damaged"
+        name="$style, seed $seed"
+        if ! "$gen" "$seed" "$lines" "$style" >"$work/made"; then
+            fault "$name" 'the generator fails'
+        else
+            same "$name" "$work/made"
+            if damage "$seed" <"$work/made" >"$work/damaged"; then
+                same "$name, damaged" "$work/damaged"
+            else
+                fault "$name" 'damaging fails'
+            fi
+        fi
         seed=$((seed + 1))
     done
 done
 
-printf '%s calls and lines compared, seeds from %s\n' "$calls" "$first"
-printf '%s passed, %s failed\n' "$good" "$bad"
-[ "$bad" = 0 ]
+printf '%s calls compared, %s of them shortened, in %s lines, seeds from %s\n' "$calls" "$shortened" "$compared" "$first"
+[ $# -gt 0 ] || [ "$calls" -ge "$least_calls" ] || fault compare "fewer than $least_calls calls"
+verdict

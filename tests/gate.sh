@@ -40,10 +40,10 @@ part 'the layout test finds what it must' sh tests/layout_finds.sh
 part 'proofs, must-fail edits and programs (rt ci)' rt ci
 part 'format (rt fmt --check)' sh tests/format.sh
 part 'the model by other hands (cargo test)' sh tests/cargo.sh model
-part 'the cards that are run' sh tests/cards.sh
-part 'replay_main against the model, fixed scripts' sh tests/compare.sh
+part 'the cards and examples that are run' sh tests/cards.sh
 part 'the C library is built' sh tests/build.sh
 part 'the C library: header and exports' sh tests/lib.sh
+part 'replay_main against the model, fixed scripts' sh tests/compare.sh
 part 'wrapper, comparison, station, benchmark (cargo test)' sh tests/cargo.sh rust
 
 printf '%s passed, %s failed\n' "$passed" "$failed"

@@ -1,5 +1,6 @@
 #!/bin/sh
-# The C library in dist: its header is the one of include, every function that the header declares is exported, and no other c51 function is.
+# The C library in dist: its header is the one of include, compiles as C89 and not with another layout of the record, and runs from C++;
+# every function that it declares is exported, and no other c51 function is.
 cd "$(dirname "$0")/.." || exit 1
 
 good=0
@@ -17,6 +18,27 @@ done
 for name in $exported; do
     if printf '%s\n' "$declared" | grep -qx "$name"; then ok; else fault "$name is exported and not declared"; fi
 done
+
+work=$(mktemp -d) || exit 1
+trap 'rm -rf "$work"' EXIT
+echo '#include <c51.h>' >"$work/header.c"
+c89() { "${CC:-cc}" -std=c89 -pedantic -Wall -Wextra -Werror -fsyntax-only -I dist "$@" "$work/header.c"; }
+if c89; then ok; else fault 'the header is no C89'; fi
+if c89 -fpack-struct=1 2>"$work/log"; then
+    fault 'the header compiles with packed structs'
+elif grep -q c51_device_layout "$work/log"; then
+    ok
+else
+    fault 'with packed structs the header is refused for another reason:'
+    cat "$work/log"
+fi
+if ! command -v "${CXX:-c++}" >"$work/log"; then
+    echo 'lib: there is no C++ compiler, so the header is not tried as C++'
+elif "${CXX:-c++}" -Wall -Wextra -Werror -I dist -x c++ rust/c51/tests/calls.c -x none dist/libc51.a -o "$work/calls" && "$work/calls"; then
+    ok
+else
+    fault 'the calls from C++ fail'
+fi
 
 printf '%s passed, %s failed\n' "$good" "$bad"
 [ "$bad" = 0 ]

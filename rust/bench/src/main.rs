@@ -13,35 +13,37 @@ use station::run::{Plan, Station};
 use std::hint::black_box;
 use std::process::exit;
 
-/// How much is run: `--quick` a twentieth, to try the program out.
-struct Scale {
-    runs: u32,
-    part: u64,
-}
+const USAGE: &str = "usage: bench [--quick]
+  --quick  run a twentieth of everything, to try the program out
+  --help   print this";
 
-const FULL: Scale = Scale { runs: 5, part: 1 };
-const QUICK: Scale = Scale { runs: 1, part: 20 };
+/// The runs of each contender.
+const RUNS: u32 = 5;
+/// Each run is one part of so many: all of it, or a twentieth.
+const WHOLE: u64 = 1;
+const QUICK: u64 = 20;
 
 fn main() {
     let words: Vec<String> = std::env::args().skip(1).collect();
-    let scale = match words.iter().map(String::as_str).collect::<Vec<&str>>()[..] {
-        [] => FULL,
+    let part = match words.iter().map(String::as_str).collect::<Vec<&str>>()[..] {
+        [] => WHOLE,
         ["--quick"] => QUICK,
+        ["--help"] => return println!("{USAGE}"),
         _ => {
-            eprintln!("bench: unknown option\nusage: bench [--quick]");
+            eprintln!("bench: unknown options '{}'\n{USAGE}", words.join(" "));
             exit(2);
         }
     };
     println!("Times of this machine: {}", processor());
-    println!("Each is the best of {} runs, contenders in turn.", scale.runs);
-    single_cycles(&scale);
-    let per_cycle = idle_station(&scale);
-    at_rest(&scale);
-    one_frame(&scale);
+    println!("Each is the best of {RUNS} runs, contenders in turn.");
+    single_cycles(part);
+    let per_cycle = idle_station(part);
+    at_rest(part);
+    one_frame(part);
     let s51 = s51();
     let emu8051 = emu8051(&std::env::temp_dir());
     others(&s51, &emu8051, per_cycle);
-    thousand_tags(&scale, per_cycle, &s51, &emu8051);
+    thousand_tags(part, per_cycle, &s51, &emu8051);
 }
 
 /// The processor's name, where the system tells it.
@@ -90,13 +92,13 @@ fn frame_pins() -> Vec<u8> {
     levels.map(|rxd| if rxd == 1 { PINS_HIGH } else { PINS_HIGH & !pin::RXD }).collect()
 }
 
-fn single_cycles(scale: &Scale) {
+fn single_cycles(part: u64) {
     for (what, device, pins) in [
         ("idle station", idle(), vec![PINS_HIGH]),
         ("a frame arriving", idle(), frame_pins()),
         ("all timers running, serial mode 3 by Timer 2", all_running(), vec![PINS_HIGH]),
     ] {
-        let rounds = 1_000_000 / scale.part / pins.len() as u64;
+        let rounds = 1_000_000 / part / pins.len() as u64;
         let cycles = rounds * pins.len() as u64;
         let model = to_model(&device);
         let mut contenders = [
@@ -104,7 +106,8 @@ fn single_cycles(scale: &Scale) {
                 let mut device = device;
                 for _ in 0..rounds {
                     for &pins in &pins {
-                        black_box(raw::c51_cycle(&mut device, pins));
+                        let a = raw::c51_cycle(&mut device, pins);
+                        black_box((a.code, a.line));
                     }
                 }
                 black_box(device);
@@ -113,7 +116,9 @@ fn single_cycles(scale: &Scale) {
                 let mut device = device;
                 for _ in 0..rounds {
                     for &pins in &pins {
-                        device = raw::c51_cycle_value(device, pins).device;
+                        let a = raw::c51_cycle_value(device, pins);
+                        black_box((a.code, a.line));
+                        device = a.device;
                     }
                 }
                 black_box(device);
@@ -128,15 +133,15 @@ fn single_cycles(scale: &Scale) {
                 black_box(model);
             }),
         ];
-        let times = race(scale.runs, &mut contenders);
+        let times = race(RUNS, &mut contenders);
         println!("\nA single cycle, {what}:");
         lines(&contenders, &times, cycles, ("ns", 1e9), 2);
     }
 }
 
 /// Gives the library's seconds a cycle.
-fn idle_station(scale: &Scale) -> f64 {
-    let cycles = 3_000_000 / scale.part;
+fn idle_station(part: u64) -> f64 {
+    let cycles = 3_000_000 / part;
     let device = idle();
     let model = to_model(&device);
     let mut tight = Idle::of(&device);
@@ -153,9 +158,6 @@ fn idle_station(scale: &Scale) -> f64 {
         Contender::new("jump by value (c51_jump_value)", || {
             black_box(raw::c51_jump_value(black_box(device), PINS_HIGH, cycles));
         }),
-        Contender::new("look ahead (c51_look)", || {
-            black_box(raw::c51_look(black_box(device), PINS_HIGH, cycles));
-        }),
         Contender::new("plain model, stepping", || {
             let mut model = black_box(model);
             model.jump(PINS_HIGH, cycles).expect("a jump");
@@ -167,17 +169,30 @@ fn idle_station(scale: &Scale) -> f64 {
             black_box(idle.device(&device));
         }),
     ];
-    let times = race(scale.runs, &mut contenders);
+    let times = race(RUNS, &mut contenders);
     println!("\nThe idle station, {cycles} cycles in {rounds} rounds, a million cycles:");
-    lines(&contenders, &times, cycles, ("ms", 1e9), 4);
+    lines(&contenders, &times, cycles, ("ms", 1e9), 3);
     println!("The same, a round:");
-    lines(&contenders, &times, rounds, ("ns", 1e9), 3);
+    lines(&contenders, &times, rounds, ("ns", 1e9), 2);
+    let looks = CALLS / part;
+    let time = race(RUNS, &mut [Contender::new("look ahead (c51_look)", || look_ahead(device, cycles, looks))])[0];
+    println!("A look ahead over all of them, in which no flag rises: {:.1} ns", time / looks as f64 * 1e9);
     times[0] / cycles as f64
 }
 
-fn at_rest(scale: &Scale) {
+/// Calls of a run where one takes well under a microsecond.
+const CALLS: u64 = 10_000;
+
+/// Look aheads over n cycles, one after the other.
+fn look_ahead(device: Device, n: u64, looks: u64) {
+    for _ in 0..looks {
+        black_box(raw::c51_look(black_box(device), PINS_HIGH, n));
+    }
+}
+
+fn at_rest(part: u64) {
     let device = Device::reset(52).expect("a kind");
-    let jumps = 10_000 / scale.part;
+    let jumps = CALLS / part;
     let mut contenders = [
         Contender::new("jump of 2^40 cycles", || {
             for _ in 0..jumps {
@@ -186,11 +201,7 @@ fn at_rest(scale: &Scale) {
                 black_box(device);
             }
         }),
-        Contender::new("look ahead over 2^40 cycles", || {
-            for _ in 0..jumps {
-                black_box(raw::c51_look(black_box(device), PINS_HIGH, MAX_CYCLES));
-            }
-        }),
+        Contender::new("look ahead over 2^40 cycles", || look_ahead(device, MAX_CYCLES, jumps)),
         Contender::new("jump of 1 cycle", || {
             for _ in 0..jumps {
                 let mut device = black_box(device);
@@ -199,7 +210,7 @@ fn at_rest(scale: &Scale) {
             }
         }),
     ];
-    let times = race(scale.runs, &mut contenders);
+    let times = race(RUNS, &mut contenders);
     println!("\nA device at rest:");
     lines(&contenders, &times, jumps, ("ns", 1e9), 2);
 }
@@ -214,13 +225,13 @@ fn read_frames<C: Chip>(frames: u64) {
     assert_eq!(reader.take_received().len() as u64, frames);
 }
 
-fn one_frame(scale: &Scale) {
-    let frames = 1000 / scale.part;
+fn one_frame(part: u64) {
+    let frames = 1000 / part;
     let mut contenders = [
         Contender::new("library", || read_frames::<Device>(frames)),
         Contender::new("plain model", || read_frames::<Plain>(frames)),
     ];
-    let times = race(scale.runs, &mut contenders);
+    let times = race(RUNS, &mut contenders);
     println!("\nA frame of 960 cycles, by look ahead and jump, read by interrupt:");
     lines(&contenders, &times, frames, ("us", 1e6), 1);
 }
@@ -246,18 +257,18 @@ fn read_tags<C: Chip>(gap: u64, tags: u64) -> f64 {
     })
 }
 
-fn thousand_tags(scale: &Scale, per_cycle: f64, s51: &Figure, emu8051: &Figure) {
+fn thousand_tags(part: u64, per_cycle: f64, s51: &Figure, emu8051: &Figure) {
     const TAGS: u64 = 1000;
     const GAPS: [u64; 2] = [1, 60];
     println!("\nRun time for {TAGS} tags, with a gap of {} s and of {} s before each:", GAPS[0], GAPS[1]);
     let row = |name: &str, times: [f64; 2], how: &str| println!("  {name:<16} {:>10.2} s {:>10.2} s   {how}", times[0], times[1]);
 
-    let budget = 4.0 / scale.part as f64;
+    let budget = 4.0 / part as f64;
     let counts = GAPS.map(|gap| ((budget / (2.0 * per_cycle * (gap * CYCLES_A_SECOND) as f64)) as u64).clamp(1, TAGS));
     let library = [0, 1].map(|i| read_tags::<Device>(GAPS[i] * CYCLES_A_SECOND, counts[i]) * TAGS as f64 / counts[i] as f64);
     row("library", library, &format!("measured on {} and {} tags", counts[0], counts[1]));
 
-    let tags = (20 / scale.part).max(2);
+    let tags = (20 / part).max(2);
     let [short, long] = [CYCLES_A_SECOND / 100, CYCLES_A_SECOND / 10].map(|gap| (gap, read_tags::<Plain>(gap, tags) / tags as f64));
     let slope = (long.1 - short.1) / (long.0 - short.0) as f64;
     let model = GAPS.map(|gap| TAGS as f64 * (long.1 + slope * (gap * CYCLES_A_SECOND - long.0) as f64));

@@ -3,7 +3,7 @@
 use c51::Device;
 use c51model::model;
 use compare::record::of_model;
-use station::chip::Chip;
+use station::chip::{Chip, PASSES};
 use std::cell::Cell;
 
 pub struct Plain {
@@ -12,7 +12,10 @@ pub struct Plain {
     ahead: Cell<Option<(u8, u64, model::Device)>>,
 }
 
-const PASSES: &str = "a station's calls pass";
+/// A vector, whose high byte is 0.
+fn byte(vector: u16) -> u8 {
+    u8::try_from(vector).expect("a vector of the chip")
+}
 
 impl Chip for Plain {
     fn reset() -> Plain {
@@ -55,12 +58,12 @@ impl Chip for Plain {
     }
 
     fn offer(&self) -> Option<u8> {
-        self.device.offer().expect(PASSES).map(|vector| vector as u8)
+        self.device.offer().expect(PASSES).map(byte)
     }
 
     fn take(&mut self) -> u8 {
         self.ahead.set(None);
-        self.device.take().expect(PASSES) as u8
+        byte(self.device.take().expect(PASSES))
     }
 
     fn return_from_interrupt(&mut self) {

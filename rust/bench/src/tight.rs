@@ -1,8 +1,10 @@
 //! The tightest loop by hand over the rounds of the idle station, and over nothing else: Timer 1 in mode 2, serial mode 1 with SMOD 0,
 //! RXD high.
-use c51::Device;
+use c51::{flag, Device};
+use station::frame::TICKS;
 
-const TF1: u8 = 0x80;
+/// The count of TL1 that overflows next.
+const LAST_COUNT: u8 = 0xFF;
 
 /// What moves in an idle station.
 pub struct Idle {
@@ -29,14 +31,14 @@ impl Idle {
         let mut left = n;
         let mut rounds = 0;
         while left > 0 {
-            let room = u64::from(0xFF - self.tl1);
+            let room = u64::from(LAST_COUNT - self.tl1);
             if room > 0 {
                 let stride = room.min(left);
                 self.tl1 += stride as u8;
                 left -= stride;
             } else {
                 self.tl1 = self.th1;
-                self.send_counter = (self.send_counter + self.half) & 15;
+                self.send_counter = (self.send_counter + self.half) % TICKS as u8;
                 self.half ^= 1;
                 left -= 1;
             }
@@ -50,7 +52,7 @@ impl Idle {
     pub fn device(&self, before: &Device) -> Device {
         let mut device = *before;
         device.timers.tl1 = self.tl1;
-        device.timers.tcon |= TF1;
+        device.timers.tcon |= flag::TF1;
         device.serial.half = self.half;
         device.serial.send.counter = self.send_counter;
         device.cycle = self.cycle;

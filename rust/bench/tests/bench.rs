@@ -34,6 +34,7 @@ fn missing_programs_are_named_and_left_out() {
     for part in [
         "A single cycle, idle station:",
         "The idle station,",
+        "A look ahead over all of them, in which no flag rises: ",
         "A device at rest:",
         "A frame of 960 cycles",
         "Run time for 1000 tags",
@@ -46,7 +47,12 @@ fn missing_programs_are_named_and_left_out() {
 }
 
 #[test]
-fn an_unknown_option() {
-    let ran = Command::new(env!("CARGO_BIN_EXE_bench")).arg("--slow").output().expect("the program runs");
+fn help_and_an_unknown_option() {
+    let bench = |word: &str| Command::new(env!("CARGO_BIN_EXE_bench")).arg(word).output().expect("the program runs");
+    let ran = bench("--help");
+    assert!(ran.status.success() && ran.stdout.starts_with(b"usage: bench"));
+    let ran = bench("--slow");
     assert_eq!(ran.status.code(), Some(2));
+    let said = String::from_utf8_lossy(&ran.stderr).into_owned();
+    assert!(said.contains("unknown options '--slow'") && said.contains("usage: bench"), "{said}");
 }

@@ -60,6 +60,18 @@ pub mod address {
     pub const TH2: u8 = 0xCD;
 }
 
+/// Masks of the flags: TF1, TF0, IE1, IE0 in TCON, TI, RI in SCON, TF2, EXF2 in T2CON.
+pub mod flag {
+    pub const TF1: u8 = 0x80;
+    pub const TF0: u8 = 0x20;
+    pub const IE1: u8 = 0x08;
+    pub const IE0: u8 = 0x02;
+    pub const TI: u8 = 0x02;
+    pub const RI: u8 = 0x01;
+    pub const TF2: u8 = 0x80;
+    pub const EXF2: u8 = 0x40;
+}
+
 /// Why a call was refused; the number is the library's code.
 #[derive(Clone, Copy, PartialEq, Eq, Hash, Debug)]
 #[repr(u8)]

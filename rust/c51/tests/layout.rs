@@ -103,7 +103,7 @@ fn the_layout_in_c() {
     }
 }
 
-/// Every field of the record is in the table: without one, the bytes that the fields and the known padding take would not add up.
+/// The parts of the record and one byte of padding add up to its size, and the table has as many places in it as it has fields.
 #[test]
 fn the_table_is_whole() {
     let bytes: usize =

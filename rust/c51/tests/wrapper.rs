@@ -1,4 +1,4 @@
-//! The wrapper: each refusal once, what a refused call leaves, and the values of each call.
+//! The wrapper: each refusal that a call can meet, what a refused call leaves, and the values of each call.
 use c51::{address, Device, Refusal, MAX_CYCLES, MAX_TRACE, PINS_HIGH};
 
 /// Timer 0 about to overflow, its interrupt enabled.

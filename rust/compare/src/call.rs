@@ -21,12 +21,25 @@ pub enum Call {
     Dump,
 }
 
+/// A trace entry: the pin byte on top of 24 bits of cycles.
+pub fn entry(pins: u8, cycles: u64) -> u32 {
+    u32::from(pins) << 24 | cycles as u32
+}
+
+/// A number of a script: digits alone, without a sign.
+fn number(word: &str) -> Result<u64, String> {
+    match word.parse() {
+        Ok(n) if word.bytes().all(|b| b.is_ascii_digit()) => Ok(n),
+        _ => Err(format!("{word}: not a number")),
+    }
+}
+
 impl Call {
     /// The call of a script's line.
     pub fn parse(line: &str) -> Result<Call, String> {
         let mut words = line.split(' ');
         let name = words.next().unwrap_or("");
-        let numbers: Vec<u64> = words.map(|w| w.parse().map_err(|_| format!("{w}: not a number"))).collect::<Result<_, _>>()?;
+        let numbers: Vec<u64> = words.map(number).collect::<Result<_, _>>()?;
         let byte = |n: u64| u8::try_from(n).map_err(|_| format!("{n} does not fit 8 bits"));
         Ok(match (name, numbers.as_slice()) {
             ("R", &[kind]) => Call::Reset(byte(kind)?),

@@ -2,4 +2,5 @@
 pub mod call;
 pub mod lists;
 pub mod pair;
+pub mod reach;
 pub mod record;

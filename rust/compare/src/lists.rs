@@ -1,5 +1,5 @@
 //! Fresh random records of any content and random lists of calls, beside those of the model's generator.
-use crate::call::Call;
+use crate::call::{entry, Call};
 use crate::pair::{Pair, Tally};
 use c51::{address, Device, Interrupts, Receiver, Sender, Serial, Timer2, Timers, MAX_CYCLES, PINS_HIGH};
 use random::Rng;
@@ -179,7 +179,7 @@ fn trace(rng: &mut Rng, most: u64) -> Vec<u32> {
         .map(|_| {
             let pins = if bad { pins(rng) } else { rng.byte() & PINS_HIGH };
             let cycles = if bad && rng.one_in(4) { 0 } else { rng.between(1, most) };
-            u32::from(pins) << 24 | cycles as u32
+            entry(pins, cycles)
         })
         .collect()
 }
@@ -193,32 +193,64 @@ fn some_address(rng: &mut Rng) -> u8 {
     }
 }
 
-/// Call `number`, of `CALLS`, with random arguments.
-fn call(rng: &mut Rng, number: u64, most: u64) -> Call {
-    match number {
-        0 => Call::Write(some_address(rng), rng.byte()),
-        1 => Call::Read(some_address(rng)),
-        2 => Call::Cycle(pins(rng)),
-        3 => Call::Jump(pins(rng), cycles(rng, most)),
-        4 => Call::Trace(trace(rng, most)),
-        5 => Call::Look(pins(rng), cycles(rng, most)),
-        6 => Call::Offer,
-        7 => Call::Take,
-        8 => Call::Return,
-        _ => Call::Reset(rng.pick(&[51, 52, 52, 53, 0, 255])),
-    }
+/// The names of the calls.
+#[derive(Clone, Copy)]
+enum Name {
+    Write,
+    Read,
+    Cycle,
+    Jump,
+    Trace,
+    Look,
+    Offer,
+    Take,
+    Return,
+    Reset,
 }
 
-const CALLS: u64 = 10;
+const NAMES: [Name; 10] =
+    [Name::Write, Name::Read, Name::Cycle, Name::Jump, Name::Trace, Name::Look, Name::Offer, Name::Take, Name::Return, Name::Reset];
+
+/// The call of that name with random arguments.
+fn call(rng: &mut Rng, name: Name, most: u64) -> Call {
+    match name {
+        Name::Write => Call::Write(some_address(rng), rng.byte()),
+        Name::Read => Call::Read(some_address(rng)),
+        Name::Cycle => Call::Cycle(pins(rng)),
+        Name::Jump => Call::Jump(pins(rng), cycles(rng, most)),
+        Name::Trace => Call::Trace(trace(rng, most)),
+        Name::Look => Call::Look(pins(rng), cycles(rng, most)),
+        Name::Offer => Call::Offer,
+        Name::Take => Call::Take,
+        Name::Return => Call::Return,
+        Name::Reset => Call::Reset(rng.pick(&[51, 52, 52, 53, 0, 255])),
+    }
+}
 
 /// Runs every call on one raw record.
 pub fn run_record(rng: &mut Rng) -> Result<Tally, String> {
     let pair = Pair::of_record(raw_record(rng));
     let mut tally = Tally::default();
-    for number in 0..CALLS {
-        tally += pair.clone().run_calls(std::iter::once(Ok(call(rng, number, 8))))?;
+    for name in NAMES {
+        tally += pair.clone().run_calls(std::iter::once(Ok(call(rng, name, 8))))?;
     }
     Ok(tally)
+}
+
+/// The name of a list's next call: now and then a reset; of the others a third are writes, and a read, a cycle, a jump or a trace comes
+/// twice as often as a look ahead, an offer, a take or a return.
+fn next_name(rng: &mut Rng) -> Name {
+    if rng.one_in(200) {
+        return Name::Reset;
+    }
+    match rng.below(18) {
+        0..=5 => Name::Write,
+        6..=7 => Name::Read,
+        8..=9 => Name::Cycle,
+        10..=11 => Name::Jump,
+        12..=13 => Name::Trace,
+        _ => rng.pick(&[Name::Look, Name::Offer, Name::Take, Name::Return]),
+    }
 }
 
 /// Runs a random list from reset or from a raw record.
@@ -229,9 +261,8 @@ pub fn run_list(rng: &mut Rng, length: u64) -> Result<Tally, String> {
     };
     let most = rng.pick(&[3, 30, 300, 3000]);
     let calls = (1..length).map(|_| {
-        let number = if rng.one_in(200) { CALLS } else { rng.below(CALLS - 1) };
-        let writes_more = number > 4 && rng.one_in(2);
-        call(rng, if writes_more { 0 } else { number }, most)
+        let name = next_name(rng);
+        call(rng, name, most)
     });
     let calls: Vec<Call> = std::iter::once(first).chain(calls).collect();
     Pair::default().run_calls(calls.into_iter().map(Ok))

@@ -1,7 +1,8 @@
 //! A device of the library and one of the model, run by the same calls.
 use crate::call::Call;
+use crate::reach::{shortened, REACH};
 use crate::record::{of_model, to_model};
-use c51::raw::{self, Answer, CycleAnswer, LineAnswer, LookAnswer, OfferAnswer, ValueAnswer, VectorAnswer};
+use c51::raw::{self, Answer, CycleAnswer, LineAnswer, LookAnswer, ValueAnswer};
 use c51::Device;
 use c51model::model::{self, Refusal};
 use c51model::script;
@@ -38,19 +39,16 @@ fn same<T: PartialEq + Debug>(library: T, model: T) -> Result<(), String> {
     }
 }
 
-/// The most cycles of a call while a frame is under way, and the most of any jump.
-const REACH: u64 = 1 << 14;
-const MAX_CYCLES: u64 = 1 << 40;
-
 impl Pair {
     pub fn of_record(device: Device) -> Pair {
         Pair { library: device, model: to_model(&device) }
     }
 
-    /// Runs a call on both and compares the answer and every field; gives the cycles that passed. A difference comes as a text with
-    /// a script that shows it.
+    /// Runs a call on both, over fewer cycles where it is out of reach, and compares the answer and every field; gives the cycles that
+    /// passed. A difference comes as a text with a script that shows it.
     pub fn run(&mut self, call: &Call) -> Result<u64, String> {
-        let call = &self.within_reach(call);
+        let shorter = shortened(&self.model, call);
+        let call = shorter.as_ref().unwrap_or(call);
         let before = self.library;
         self.compare(call).map_err(|what| {
             format!(
@@ -62,24 +60,6 @@ impl Pair {
             Call::Cycle(_) | Call::Jump(..) | Call::Trace(_) => self.library.cycle.wrapping_sub(before.cycle),
             _ => 0,
         })
-    }
-
-    /// A frame under way makes every cycle a round, also where it waits on a stopped clock, and the model leaps over those: a call
-    /// of very many such cycles is run over fewer, on both.
-    fn within_reach(&self, call: &Call) -> Call {
-        let serial = &self.library.serial;
-        if serial.send.position == 0 && serial.receive.position == 0 {
-            return call.clone();
-        }
-        let fewer = |n: u64| if (REACH..=MAX_CYCLES).contains(&n) { n % REACH } else { n };
-        match call {
-            &Call::Jump(pins, n) => Call::Jump(pins, fewer(n)),
-            &Call::Look(pins, n) => Call::Look(pins, fewer(n)),
-            Call::Trace(entries) => Call::Trace(
-                entries.iter().map(|&e| if u64::from(e & 0xff_ffff) < REACH { e } else { e & 0xff00_0fff | 1 }).collect(),
-            ),
-            _ => call.clone(),
-        }
     }
 
     fn compare(&mut self, call: &Call) -> Result<(), String> {
@@ -122,12 +102,12 @@ impl Pair {
             }
             Call::Offer => {
                 let (code, vector) = code_and(model.offer());
-                let expected = OfferAnswer { code, offered: vector.is_some().into(), vector: vector.unwrap_or(0) as u8 };
-                same(raw::c51_offer(*library), expected)?;
+                let a = raw::c51_offer(*library);
+                same((a.code, a.offered, a.vector.into()), (code, vector.is_some().into(), vector.unwrap_or(0)))?;
             }
             Call::Take => {
-                let (code, vector) = code_and(model.take());
-                same(raw::c51_take(library), VectorAnswer { code, vector: vector as u8 })?;
+                let a = raw::c51_take(library);
+                same((a.code, a.vector.into()), code_and(model.take()))?;
             }
             Call::Return => {
                 let code = code_and(model.return_from_interrupt()).0;
@@ -156,16 +136,13 @@ impl Pair {
         let mut tally = Tally::default();
         for call in calls {
             let cycles = self.run(&call?)?;
-            tally += Tally { calls: 1, cycles: if cycles <= MOST_COUNTED { cycles } else { 0 } };
+            tally += Tally { calls: 1, cycles: if cycles <= REACH { cycles } else { 0 } };
         }
         Ok(tally)
     }
 }
 
-/// More cycles in one call are those of a chip at rest, and are not counted.
-const MOST_COUNTED: u64 = 1 << 24;
-
-/// The calls and cycles that were compared.
+/// The calls and cycles that were compared. A call of more cycles than the reach crosses a chip at rest, and they are not counted.
 #[derive(Clone, Copy, Default, PartialEq, Debug)]
 pub struct Tally {
     pub calls: u64,

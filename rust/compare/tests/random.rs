@@ -1,7 +1,7 @@
 //! A fixed number of lists and raw records of fixed seeds, and that the comparison finds what it must.
-use c51::Device;
+use c51::{Device, PINS_HIGH};
 use c51model::script;
-use compare::call::Call;
+use compare::call::{entry, Call};
 use compare::lists::{raw_record, run_list, run_record, script, STYLES};
 use compare::pair::{Pair, Tally};
 use compare::record::{of_model, to_model};
@@ -45,36 +45,95 @@ fn raw_records() {
     assert!(accepted > RECORDS / 3 && accepted < RECORDS * 2 / 3, "{accepted} of {RECORDS} accepted");
 }
 
-/// Devices started alike and taken through the same cycles by one jump and by other cuts into jumps, traces and single cycles are
-/// equal in every field.
-#[test]
-fn any_cut_ends_alike() {
-    for seed in 0..3_000 {
-        let rng = &mut Rng::part(6, seed);
-        let mut whole = raw_record(rng);
-        if !whole.accepts() {
-            continue;
-        }
-        let mut cut = whole;
-        let pins = rng.byte() & 0x7f;
-        let n = rng.between(1, 3_000);
-        whole.jump(pins, n).unwrap();
-        let mut left = n;
+/// Cycles with one pin byte.
+#[derive(Clone, Copy, Debug)]
+struct Stretch {
+    pins: u8,
+    cycles: u64,
+}
+
+/// A list of stretches, most of which change a pin or two.
+fn stretches(rng: &mut Rng) -> Vec<Stretch> {
+    let longest = rng.pick(&[4, 40, 400]);
+    let mut pins = rng.byte() & PINS_HIGH;
+    (0..rng.between(2, 30))
+        .map(|_| {
+            pins = match rng.below(4) {
+                0 => rng.byte() & PINS_HIGH,
+                _ => pins ^ 1 << rng.below(7),
+            };
+            Stretch { pins, cycles: rng.between(1, longest) }
+        })
+        .collect()
+}
+
+/// The same cycles in other stretches: cut anywhere.
+fn cut(rng: &mut Rng, list: &[Stretch]) -> Vec<Stretch> {
+    let mut parts = Vec::new();
+    for &Stretch { pins, cycles } in list {
+        let mut left = cycles;
         while left > 0 {
-            let part = rng.between(1, left.min(700));
-            match rng.below(3) {
-                0 => cut.jump(pins, part).unwrap(),
-                1 => cut.trace(&[u32::from(pins) << 24 | part as u32]).unwrap(),
-                _ => {
-                    for _ in 0..part {
-                        cut.cycle(pins).unwrap();
-                    }
-                }
-            }
+            let part = rng.between(1, left);
+            parts.push(Stretch { pins, cycles: part });
             left -= part;
         }
-        assert_eq!(cut, whole, "record {seed}: {n} cycles with pin byte {pins}");
     }
+    parts
+}
+
+fn run_cycles(device: &mut Device, list: &[Stretch]) {
+    for stretch in list {
+        for _ in 0..stretch.cycles {
+            device.cycle(stretch.pins).unwrap();
+        }
+    }
+}
+
+fn run_jumps(device: &mut Device, list: &[Stretch]) {
+    list.iter().for_each(|stretch| device.jump(stretch.pins, stretch.cycles).unwrap());
+}
+
+fn run_trace(device: &mut Device, list: &[Stretch]) {
+    let entries: Vec<u32> = list.iter().map(|stretch| entry(stretch.pins, stretch.cycles)).collect();
+    device.trace(&entries).unwrap();
+}
+
+/// Cuts the list anywhere and runs some parts in single cycles, some in jumps and some in traces of several entries.
+fn run_mixed(device: &mut Device, list: &[Stretch], rng: &mut Rng) {
+    let parts = cut(rng, list);
+    let mut rest = &parts[..];
+    while !rest.is_empty() {
+        let (some, others) = rest.split_at(rng.between(1, rest.len().min(8) as u64) as usize);
+        rng.pick(&[run_cycles, run_jumps, run_trace])(device, some);
+        rest = others;
+    }
+}
+
+/// Devices started alike and taken through the same cycles by single cycles, by jumps, by one trace and by any mix of them are equal in
+/// every field, and equal the model.
+#[test]
+fn any_cut_ends_alike() {
+    let mut lists = 0;
+    for seed in 0..4_000 {
+        let rng = &mut Rng::part(6, seed);
+        let device = raw_record(rng);
+        if !device.accepts() {
+            continue;
+        }
+        let list = stretches(rng);
+        let [mut cycled, mut jumped, mut traced, mut mixed] = [device; 4];
+        run_cycles(&mut cycled, &list);
+        run_jumps(&mut jumped, &list);
+        run_trace(&mut traced, &list);
+        run_mixed(&mut mixed, &list, rng);
+        let mut model = to_model(&device);
+        list.iter().for_each(|stretch| model.jump(stretch.pins, stretch.cycles).unwrap());
+        for (way, ended) in [("single cycles", cycled), ("jumps", jumped), ("a trace", traced), ("a mix", mixed)] {
+            assert_eq!(ended, of_model(&model), "record {seed}, {way}: {list:?}");
+        }
+        lists += 1;
+    }
+    assert!(lists > 1_000, "{lists} lists");
 }
 
 /// A difference in any one of the 41 numbers is found, and the text has the script that shows it.
@@ -110,7 +169,7 @@ fn lines_and_calls() {
     }
     let load = Call::Load(Box::new(raw_record(&mut Rng::new(5))));
     assert_eq!(Call::parse(&load.to_string()).unwrap(), load);
-    for line in ["", "X", "R", "R 256", "W 1", "C 1 2", "T 2 1", "T 1 4294967296", "S 1", "J 1 -1", "O 1"] {
+    for line in ["", "X", "R", "R 256", "W 1", "C 1 2", "T 2 1", "T 1 4294967296", "S 1", "J 1 -1", "J 1 +1", "O 1"] {
         assert!(Call::parse(line).is_err(), "{line}");
     }
 }

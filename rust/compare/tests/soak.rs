@@ -14,6 +14,12 @@ fn a_small_soak() {
 }
 
 #[test]
+fn help() {
+    let ran = soak("--help");
+    assert!(ran.status.success() && ran.stdout.starts_with(b"usage: soak"));
+}
+
+#[test]
 fn bad_options() {
     for (line, message) in [("--hours 3", "unknown option --hours"), ("--seed", "--seed wants a number"), ("--cycles x", "not 'x'")]
     {

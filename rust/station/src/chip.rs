@@ -19,7 +19,8 @@ pub trait Chip {
     fn record(&self) -> Device;
 }
 
-const PASSES: &str = "a station's calls pass";
+/// What is said where one is refused all the same.
+pub const PASSES: &str = "a station's calls pass";
 
 impl Chip for Device {
     fn reset() -> Device {

@@ -2,8 +2,10 @@
 
 /// Cycles of a tick: Timer 1 overflows every third cycle (TH1 is FD), and with SMOD 0 every second overflow is a tick.
 pub const TICK: u64 = 6;
-/// Cycles of a bit: 16 ticks, 9600 baud.
-pub const BIT: u64 = 16 * TICK;
+/// Ticks of a bit, which the serial counters count.
+pub const TICKS: u64 = 16;
+/// Cycles of a bit: 9600 baud.
+pub const BIT: u64 = TICKS * TICK;
 /// Bits of a frame.
 pub const BITS: u64 = 10;
 /// The first of the three ticks of a bit at which the receiver samples the line.
@@ -76,14 +78,14 @@ mod tests {
                 let noisy = levels(&frame(0xA5, Some(Noise { bit, sample, samples: 1 })));
                 assert_eq!(noisy.len(), clean.len());
                 for phase in 0..TICK {
-                    let sampled = (0..BITS * 16).filter(|tick| (FIRST_SAMPLE..FIRST_SAMPLE + SAMPLES).contains(&(tick % 16)));
+                    let sampled = (0..BITS * TICKS).filter(|tick| (FIRST_SAMPLE..FIRST_SAMPLE + SAMPLES).contains(&(tick % TICKS)));
                     let flipped: Vec<u64> = sampled
                         .filter(|tick| {
                             let cycle = (phase + tick * TICK) as usize;
                             noisy[cycle] != clean[cycle]
                         })
                         .collect();
-                    assert_eq!(flipped, [bit * 16 + FIRST_SAMPLE + sample]);
+                    assert_eq!(flipped, [bit * TICKS + FIRST_SAMPLE + sample]);
                 }
             }
         }

@@ -2,11 +2,10 @@
 use crate::chip::Chip;
 use crate::frame::Stretch;
 use crate::vcd::Waveform;
-use c51::{address, pin, PINS_HIGH};
+use c51::{address, flag, pin, PINS_HIGH};
 
 /// The vector of the serial port.
 const SERIAL_VECTOR: u8 = 0x23;
-const RI: u8 = 0x01;
 
 /// Timer 1 in mode 2 with reload FD, serial mode 1 with REN, the serial interrupt enabled.
 pub const SETUP: [(u8, u8); 6] = [
@@ -92,7 +91,7 @@ impl<C: Chip> Reader<C> {
             let byte = self.chip.read(address::SBUF);
             self.received.push(Received { byte, cycle });
             let scon = self.chip.read(address::SCON);
-            self.chip.write(address::SCON, scon & !RI);
+            self.chip.write(address::SCON, scon & !flag::RI);
             self.chip.return_from_interrupt();
         }
     }

@@ -15,18 +15,23 @@ fn verdict(row: &Row) -> String {
     }
 }
 
+/// What a row shows: station, cycle, seconds, tag, noisy samples, verdict.
+fn fields(row: &Row) -> [String; 6] {
+    [
+        row.station.to_string(),
+        row.cycle.to_string(),
+        format!("{:.6}", seconds(row.cycle)),
+        row.tag.clone(),
+        row.noisy_samples.to_string(),
+        verdict(row),
+    ]
+}
+
 pub fn table(rows: &[Row]) -> String {
     let mut text = format!("station {:>16} {:>14}  {:<15} noisy samples  verdict\n", "cycle", "seconds", "tag");
     for row in rows {
-        text += &format!(
-            "{:>7} {:>16} {:>14.6}  {:<15} {:>13}  {}\n",
-            row.station,
-            row.cycle,
-            seconds(row.cycle),
-            row.tag,
-            row.noisy_samples,
-            verdict(row)
-        );
+        let [station, cycle, seconds, tag, noisy_samples, verdict] = fields(row);
+        text += &format!("{station:>7} {cycle:>16} {seconds:>14}  {tag:<15} {noisy_samples:>13}  {verdict}\n");
     }
     let wrong = rows.iter().filter(|row| !row.right()).count();
     let noisy: u64 = rows.iter().map(|row| row.noisy_samples).sum();
@@ -41,15 +46,8 @@ pub fn table(rows: &[Row]) -> String {
 pub fn csv(rows: &[Row]) -> String {
     let mut text = String::from("station,cycle,seconds,tag,noisy_samples,verdict\n");
     for row in rows {
-        text += &format!(
-            "{},{},{:.6},{},{},{}\n",
-            row.station,
-            row.cycle,
-            seconds(row.cycle),
-            row.tag,
-            row.noisy_samples,
-            verdict(row)
-        );
+        text += &fields(row).join(",");
+        text += "\n";
     }
     text
 }

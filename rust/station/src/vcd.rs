@@ -1,5 +1,5 @@
 //! A waveform as a VCD file: pins, output line, positions and flags of a station, cycle by cycle.
-use c51::{pin, Device};
+use c51::{flag, pin, Device};
 use std::fmt::Write;
 
 /// What a cycle shows.
@@ -41,14 +41,14 @@ const SIGNALS: [Signal; 22] = [
     signal("receive", "receive_counter", 4, |s| s.device.serial.receive.counter),
     signal("receive", "votes", 2, |s| s.device.serial.receive.votes),
     signal("receive", "SBUF", 8, |s| s.device.serial.received),
-    signal("flags", "TF0", 1, |s| bit(s.device.timers.tcon, 0x20)),
-    signal("flags", "TF1", 1, |s| bit(s.device.timers.tcon, 0x80)),
-    signal("flags", "IE0", 1, |s| bit(s.device.timers.tcon, 0x02)),
-    signal("flags", "IE1", 1, |s| bit(s.device.timers.tcon, 0x08)),
-    signal("flags", "RI", 1, |s| bit(s.device.serial.scon, 0x01)),
-    signal("flags", "TI", 1, |s| bit(s.device.serial.scon, 0x02)),
-    signal("flags", "TF2", 1, |s| bit(s.device.timer2.t2con, 0x80)),
-    signal("flags", "EXF2", 1, |s| bit(s.device.timer2.t2con, 0x40)),
+    signal("flags", "TF0", 1, |s| bit(s.device.timers.tcon, flag::TF0)),
+    signal("flags", "TF1", 1, |s| bit(s.device.timers.tcon, flag::TF1)),
+    signal("flags", "IE0", 1, |s| bit(s.device.timers.tcon, flag::IE0)),
+    signal("flags", "IE1", 1, |s| bit(s.device.timers.tcon, flag::IE1)),
+    signal("flags", "RI", 1, |s| bit(s.device.serial.scon, flag::RI)),
+    signal("flags", "TI", 1, |s| bit(s.device.serial.scon, flag::TI)),
+    signal("flags", "TF2", 1, |s| bit(s.device.timer2.t2con, flag::TF2)),
+    signal("flags", "EXF2", 1, |s| bit(s.device.timer2.t2con, flag::EXF2)),
 ];
 
 /// The time of a cycle number in nanoseconds: 12 periods of 11.0592 MHz are 78,125 / 72 ns.

@@ -9,7 +9,8 @@ use std::time::{Duration, Instant, SystemTime, UNIX_EPOCH};
 const USAGE: &str = "usage: soak [--cycles N] [--records N] [--seed S]
   --cycles N   cycles of mixed lists to compare (1000000000)
   --records N  raw records to compare, every call on each (10000000)
-  --seed S     the seed (taken from the clock)";
+  --seed S     the seed (taken from the clock)
+  --help       print this";
 
 const LINES: u64 = 2_000;
 const LISTS_A_SCRIPT: u64 = 200;
@@ -23,7 +24,8 @@ struct Options {
     seed: u64,
 }
 
-fn options(mut words: impl Iterator<Item = String>) -> Result<Options, String> {
+/// The options, or none where help is asked for.
+fn options(mut words: impl Iterator<Item = String>) -> Result<Option<Options>, String> {
     let clock = SystemTime::now().duration_since(UNIX_EPOCH).map_or(0, |time| time.as_secs());
     let mut options = Options { cycles: 1_000_000_000, records: 10_000_000, seed: clock };
     while let Some(word) = words.next() {
@@ -31,12 +33,13 @@ fn options(mut words: impl Iterator<Item = String>) -> Result<Options, String> {
             "--cycles" => &mut options.cycles,
             "--records" => &mut options.records,
             "--seed" => &mut options.seed,
+            "--help" => return Ok(None),
             _ => return Err(format!("unknown option {word}")),
         };
         let value = words.next().ok_or(format!("{word} wants a number"))?;
         *place = value.parse().map_err(|_| format!("{word} wants a number, not '{value}'"))?;
     }
-    Ok(options)
+    Ok(Some(options))
 }
 
 /// What was compared so far, and the progress on stderr.
@@ -109,6 +112,7 @@ fn main() {
         eprintln!("soak: {why}\n{USAGE}");
         exit(2);
     });
+    let Some(options) = options else { return println!("{USAGE}") };
     println!("seed {}", options.seed);
     let now = Instant::now();
     let mut soak = Soak { options, lists: Tally::default(), records: 0, on_records: Tally::default(), start: now, shown: now };

@@ -1,0 +1,102 @@
+//! The reach of the comparison. A chip rests under a pin byte where no timer counts, no frame is under way and the cycle number alone
+//! moves; both cross that at once. Before it the model steps every cycle, and the library makes a round of every cycle with an overflow
+//! or of a frame, also of one that waits on a stopped clock. A call of very many such cycles is run over fewer, on both.
+use crate::call::{entry, Call};
+use c51::{MAX_CYCLES, MAX_TRACE};
+use c51model::model::{entry_cycles, entry_pins, Device};
+use c51model::script;
+
+/// The most cycles of a jump, a look ahead or a trace entry before the chip rests or the look ahead ends.
+pub const REACH: u64 = 1 << 19;
+/// The most cycles of a jump, a look ahead or a trace entry that is shortened.
+const FEW: u64 = 5_000;
+/// Cycles until the pins are those of the cycle before, and the counter pins that fell are counted.
+const SETTLED: u64 = 2;
+
+/// Cycles that are not refused and may be out of reach.
+fn are_many(n: u64) -> bool {
+    (REACH + 1..=MAX_CYCLES).contains(&n)
+}
+
+/// Whether a timer counts in the next cycle: from 0, where none overflows, a count moves on.
+fn timer_counts(device: &Device, pins: u8) -> bool {
+    let mut d = Device { tl0: 0, th0: 0, tl1: 0, th1: 0, tl2: 0, th2: 0, ..*device };
+    d.jump(pins, 1).is_ok() && [d.tl0, d.th0, d.tl1, d.th1, d.tl2, d.th2] != [0; 6]
+}
+
+/// Whether a cycle moves the cycle number alone, with no frame under way: so does every cycle after it.
+fn is_still(device: &Device, pins: u8) -> bool {
+    let mut after = *device;
+    after.jump(pins, 1).is_ok()
+        && after.only_cycle_number_moved(device)
+        && device.send_position == 0
+        && device.receive_position == 0
+}
+
+/// The cycles of a jump or a trace entry: fewer where the chip does not rest in time. A timer that still counts once the pins are
+/// settled counts on, so that the chip never rests.
+fn jump_in_reach(device: &Device, pins: u8, n: u64) -> u64 {
+    let mut later = *device;
+    if !are_many(n) || later.jump(pins, SETTLED).is_err() {
+        return n;
+    }
+    let rests = !timer_counts(&later, pins) && later.jump(pins, REACH - SETTLED).is_ok() && is_still(&later, pins);
+    if rests {
+        n
+    } else {
+        1 + n % FEW
+    }
+}
+
+/// The cycles of a look ahead, which also ends where a flag rises.
+fn look_in_reach(device: &Device, pins: u8, n: u64) -> u64 {
+    if are_many(n) && device.look_ahead(pins, REACH) == Ok(None) {
+        jump_in_reach(device, pins, n)
+    } else {
+        n
+    }
+}
+
+/// The entries of a trace, each as a jump of its own. Nothing of a refused trace is run.
+fn trace_in_reach(device: &Device, entries: &[u32]) -> Vec<u32> {
+    let mut at = *device;
+    let mut within = Vec::with_capacity(entries.len());
+    for &e in entries {
+        let pins = entry_pins(e);
+        let n = jump_in_reach(&at, pins, entry_cycles(e).into());
+        if n == 0 || entries.len() > MAX_TRACE || at.jump(pins, n).is_err() {
+            return entries.to_vec();
+        }
+        within.push(entry(pins, n));
+    }
+    within
+}
+
+/// The call over fewer cycles where it is out of reach of the device, and none where it is in reach.
+pub fn shortened(device: &Device, call: &Call) -> Option<Call> {
+    let within = match call {
+        &Call::Jump(pins, n) => Call::Jump(pins, jump_in_reach(device, pins, n)),
+        &Call::Look(pins, n) => Call::Look(pins, look_in_reach(device, pins, n)),
+        Call::Trace(entries) if entries.iter().any(|&e| are_many(entry_cycles(e).into())) => {
+            Call::Trace(trace_in_reach(device, entries))
+        }
+        _ => return None,
+    };
+    (within != *call).then_some(within)
+}
+
+/// A call script with the calls shortened that are out of reach. Every other line stays as it is, also one that is a fault.
+pub fn script_in_reach(text: &str) -> String {
+    let mut device = Device::zero();
+    let mut within = String::with_capacity(text.len());
+    for whole in text.split_inclusive('\n') {
+        let line = whole.strip_suffix('\n').unwrap_or(whole);
+        let shorter = Call::parse(line).ok().and_then(|call| shortened(&device, &call)).map(|call| call.to_string());
+        let chosen = shorter.as_deref().unwrap_or(line);
+        // a fault leaves the device
+        let _ = script::run_line(&mut device, chosen);
+        within += chosen;
+        within += &whole[line.len()..];
+    }
+    within
+}

@@ -1,0 +1,117 @@
+//! The reach of the comparison: what is shortened and what is not, and the program over a script.
+use c51::{pin, PINS_HIGH};
+use compare::call::{entry, Call};
+use compare::reach::{script_in_reach, REACH};
+use std::io::Write;
+use std::process::{Command, Output, Stdio};
+
+/// The line of a trace of these pin bytes and cycles.
+fn trace(entries: &[(u8, u64)]) -> String {
+    Call::Trace(entries.iter().map(|&(pins, cycles)| entry(pins, cycles)).collect()).to_string()
+}
+
+/// Each call stays as it is after these lines.
+fn stays(before: &str, calls: &[&str]) {
+    for call in calls {
+        let text = format!("{before}{call}\nD\n");
+        assert_eq!(script_in_reach(&text), text, "{call}");
+    }
+}
+
+/// Each call is shortened after these lines, to fewer cycles that are not 0, and nothing else is.
+fn is_shortened(before: &str, calls: &[(&str, &str)]) {
+    for (call, shorter) in calls {
+        assert_eq!(script_in_reach(&format!("{before}{call}\nD\n")), format!("{before}{shorter}\nD\n"), "{call}");
+    }
+}
+
+const LONGEST: [&str; 3] = ["J 127 1099511627776", "L 127 1099511627776", "T 2 2147483647 2147483646"];
+const SHORTER: [&str; 3] = ["J 127 2777", "L 127 2777", "T 2 2130708648 2130708647"];
+
+fn longest_are_shortened(before: &str) {
+    is_shortened(before, &[0, 1, 2].map(|i| (LONGEST[i], SHORTER[i])));
+}
+
+#[test]
+fn a_chip_at_rest_is_in_reach() {
+    stays("R 52\n", &LONGEST);
+    // a frame that ends soon, in serial mode 0
+    stays("R 51\nW 153 85\n", &LONGEST);
+    // a counter whose pin has just fallen
+    stays("R 51\nW 137 5\nW 136 16\nC 119\n", &LONGEST);
+}
+
+#[test]
+fn a_frame_on_a_stopped_clock_is_out_of_reach() {
+    longest_are_shortened("R 51\nW 152 64\nW 153 85\n");
+    let in_reach = [format!("J 127 {REACH}"), format!("L 127 {REACH}"), trace(&[(PINS_HIGH, REACH)])];
+    stays("R 51\nW 152 64\nW 153 85\n", &in_reach.each_ref().map(String::as_str));
+    // INT1 stops Timer 1 by its gate, with the receiver resting and with a frame begun
+    let gated = "R 51\nW 137 160\nW 136 64\nW 141 255\nW 139 255\nW 152 80\n";
+    let stopped = |rxd: u8, n: u64| trace(&[(PINS_HIGH, 100), (PINS_HIGH & !rxd, 20), (PINS_HIGH & !rxd & !pin::INT1, n)]);
+    stays(gated, &[&stopped(0, 16_777_215)]);
+    is_shortened(gated, &[(&stopped(pin::RXD, 16_777_215), &stopped(pin::RXD, 2_216))]);
+}
+
+#[test]
+fn a_timer_that_counts_is_out_of_reach() {
+    // TF1 is set, so that the look ahead finds no rise
+    longest_are_shortened("R 51\nW 137 32\nW 136 192\n");
+    // every cycle overflows, and the record stays but for the cycle number
+    longest_are_shortened("R 51\nW 137 2\nW 140 255\nW 138 255\nW 136 48\n");
+    longest_are_shortened("R 52\nW 205 255\nW 204 255\nW 203 255\nW 202 255\nW 200 52\n");
+}
+
+#[test]
+fn a_look_ahead_that_finds_a_rise_is_in_reach() {
+    stays("R 51\nW 137 1\nW 136 16\n", &["L 127 1099511627776"]);
+    is_shortened("R 51\nW 137 1\nW 136 16\n", &[("J 127 1099511627776", "J 127 2777")]);
+}
+
+#[test]
+fn refused_calls_stay() {
+    let waiting = "R 51\nW 152 64\nW 153 85\n";
+    stays(waiting, &["J 127 1099511627777", "L 127 18446744073709551615", "J 255 1099511627776", "L 128 1099511627776"]);
+    stays(waiting, &["T 2 2147483647 2130706432", "T 2 2147483647 2147483649", "T 0"]);
+    let too_long = format!("T 65537{}", " 2147483647".repeat(65_537));
+    stays(waiting, &[&too_long]);
+    stays("R 53\n", &LONGEST);
+}
+
+#[test]
+fn faults_and_other_lines_stay() {
+    let text = "R 51\nW 152 64\nW 0153 85\nJ 127 +1099511627776\nJ 127 1099511627776 \nj 127 1099511627776\n\nx\nS 1\nJ 0127 0005";
+    assert_eq!(script_in_reach(text), text);
+    // the frame of the line that is read as a call waits, and a last line with no newline is a line
+    assert_eq!(script_in_reach(&format!("{text}\nJ 127 1099511627776")), format!("{text}\nJ 127 2777"));
+}
+
+fn reach(arguments: &[&str], script: &[u8]) -> Output {
+    let mut child = Command::new(env!("CARGO_BIN_EXE_reach"))
+        .args(arguments)
+        .stdin(Stdio::piped())
+        .stdout(Stdio::piped())
+        .stderr(Stdio::piped())
+        .spawn()
+        .expect("the program runs");
+    // a program that ends before it reads is judged by its status
+    let _ = child.stdin.take().expect("a pipe").write_all(script);
+    child.wait_with_output().expect("the program ends")
+}
+
+#[test]
+fn the_program() {
+    let ran = reach(&[], b"R 51\nW 152 64\nW 153 85\nJ 127 1099511627776\nx\n");
+    assert!(ran.status.success());
+    assert_eq!(ran.stdout, b"R 51\nW 152 64\nW 153 85\nJ 127 2777\nx\n");
+    let ran = reach(&["--help"], b"");
+    assert!(ran.status.success() && ran.stdout.starts_with(b"usage: reach"));
+    for (arguments, script, message) in
+        [(vec!["script.txt"], &b""[..], "unknown option script.txt"), (vec![], &b"R 51\n\xFF\n"[..], "the script cannot be read")]
+    {
+        let ran = reach(&arguments, script);
+        assert_eq!(ran.status.code(), Some(2), "{message}");
+        let said = String::from_utf8_lossy(&ran.stderr).into_owned();
+        assert!(said.contains(message) && ran.stdout.is_empty(), "{said}");
+    }
+}

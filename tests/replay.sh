@@ -1,0 +1,34 @@
+# Sourced, in the repository's top folder, by the tests that run call scripts through replay_main: a scratch folder, the counts of what
+# passed and failed, and the verdict.
+replay=target/bin/replay_main
+[ -x "$replay" ] || { echo "$0: $replay is missing; run 'make replay'"; exit 1; }
+work=$(mktemp -d) || exit 1
+trap 'rm -rf "$work"' EXIT
+good=0
+bad=0
+fault() { bad=$((bad + 1)); printf '%s: %s\n' "$1" "$2"; }
+
+# answered NAME SCRIPT ANSWERS: replay_main gives these answers, one to each line of the script
+answered() {
+    "$replay" <"$2" >"$work/ours"
+    status=$?
+    if [ "$status" != 0 ]; then
+        fault "$1" "replay_main ends with status $status"
+    elif [ ! -s "$2" ]; then
+        fault "$1" 'the script is empty'
+    elif [ "$(wc -l <"$2")" != "$(wc -l <"$3")" ]; then
+        fault "$1" "$(wc -l <"$2") lines and $(wc -l <"$3") answers"
+    elif ! cmp -s "$3" "$work/ours"; then
+        fault "$1" 'an answer differs, first at:'
+        diff "$3" "$work/ours" | head -n 6
+    else
+        good=$((good + 1))
+        return 0
+    fi
+    return 1
+}
+
+verdict() {
+    printf '%s passed, %s failed\n' "$good" "$bad"
+    [ "$bad" = 0 ]
+}
