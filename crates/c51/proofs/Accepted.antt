@@ -4,6 +4,7 @@ use mathlib.Core.Bool.{Bool, true, false, cond}
 use mathlib.Core.List.{List}
 use Prim.Native.Nat.{ℕ, _<_}
 use lib.Dec.{eqb, leb}
+use Rattle.laws.proofs.Choices.{chosen}
 use Rattle.machine.specs.declared.Device.{Device}
 use Rattle.machine.specs.declared.Interrupts.{Interrupts}
 use Rattle.machine.specs.declared.Answer.{Answer}
@@ -11,7 +12,7 @@ use Rattle.machine.specs.declared.CycleAnswer.{CycleAnswer}
 use Rattle.machine.specs.declared.TakeAnswer.{TakeAnswer}
 use Rattle.machine.specs.Registers.{lacks, kept}
 use Rattle.machine.specs.Record.{accepted, pinsOk}
-use Rattle.machine.specs.Interrupts.{Source, none, source, offered, inService, taken, returned, idle}
+use Rattle.machine.specs.Interrupts.{Source, none, source, offered, inService, taken, returned, noneInService}
 use Rattle.machine.specs.Cycle.{cycleOf, refused9, cycles, anyRefused9}
 use Rattle.machine.specs.Calls.{resetAnswer, writeAnswer, cycleAnswer, takeAnswer, takeOf, returnAnswer, jumpAnswer, longest, traceAnswer, traceFault, traceRefused9, traceCycles, stored, withTcon, withInterrupts, passed, refuse, passedCycle, refuseCycle, refuseTake}
 use Rattle.interrupts.proofs.Ranges as interrupts
@@ -20,11 +21,6 @@ use Rattle.registers.proofs.Accepted.{ranges-of, accepted-of, reset-accepted51,
 use Rattle.registers.proofs.Written.{write-accepted}
 use Rattle.cycle.proofs.Keeps.{cycle-accepted}
 use Rattle.jump.proofs.Keeps.{cycles-accepted, trace-accepted}
-
--- a choice has what both have
-chosen : {A : Type 0} (P : A → Type 0) (b : Bool) (x y : A) → P x → P y → P (cond b x y)
-chosen P true x y p q = p
-chosen P false x y p q = q
 
 Kept : Answer → Type 0
 Kept a = accepted (a .device) ≡ true
@@ -128,5 +124,5 @@ module _ (d : Device) (a : accepted d ≡ true) where
   unfolding returnAnswer Kept returned
   return-kept =
       chosen Kept (accepted d) _ _
-      (chosen Kept (idle (d .interrupts)) _ _ a (changed (d .timers .tcon) (returned (d .interrupts)) (ranges-of d a .timers .tcon) refl refl (interrupts.returned-ranges (d .interrupts) of-interrupts)))
+      (chosen Kept (noneInService (d .interrupts)) _ _ a (changed (d .timers .tcon) (returned (d .interrupts)) (ranges-of d a .timers .tcon) refl refl (interrupts.returned-ranges (d .interrupts) of-interrupts)))
       a

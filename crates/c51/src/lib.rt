@@ -4,6 +4,7 @@ ghost use Rattle.machine.specs.Calls as Machine;
 use machine::Answer;
 use machine::CycleAnswer;
 use machine::Device;
+use machine::LONGEST;
 use machine::LookAnswer;
 use machine::OfferAnswer;
 use machine::ReadAnswer;
@@ -152,7 +153,7 @@ pub fn reti(d: Device) -> Answer
     ensures { λ r. ⌜ r ≡ Machine.returnAnswer d ⌝ }
 {
     if registers::accepts(d) {
-        if interrupts::idle(d.interrupts) {
+        if interrupts::none_in_service(d.interrupts) {
             Answer { code: 7, device: d }
         } else {
             let i = interrupts::returned(d.interrupts);
@@ -164,9 +165,6 @@ pub fn reti(d: Device) -> Answer
         Answer { code: 1, device: d }
     }
 }
-
-// The most cycles of a jump and of a look ahead.
-const LONGEST: u64 = 1 << 40;
 
 // A jump of n cycles with one pin byte: 1, 4, 5, 9.
 pub fn jump(d: Device, pins: u8, n: u64) -> Answer

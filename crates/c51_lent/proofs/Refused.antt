@@ -3,6 +3,7 @@ use mathlib.Core.Path.{_≡_, refl}
 use mathlib.Core.Bool.{Bool, true, false, cond}
 use Prim.Native.Nat.{ℕ}
 use lib.Dec.{leb}
+use Rattle.laws.proofs.Choices.{chosen}
 use Rattle.machine.specs.declared.Device.{Device}
 use Rattle.machine.specs.declared.Answer.{Answer}
 use Rattle.machine.specs.declared.CycleAnswer.{CycleAnswer}
@@ -12,11 +13,6 @@ use Rattle.machine.specs.Record.{accepted, pinsOk}
 use Rattle.machine.specs.Interrupts.{Source, none, source, offered}
 use Rattle.machine.specs.Cycle.{refused9, anyRefused9}
 use Rattle.machine.specs.Calls.{writeAnswer, cycleAnswer, jumpAnswer, takeAnswer, takeOf, longest}
-
--- a choice has what both have
-chosen : {A : Type 0} (P : A → Type 0) (b : Bool) (x y : A) → P x → P y → P (cond b x y)
-chosen P true x y p q = p
-chosen P false x y p q = q
 
 module _ (d : Device) where
   -- refused, or all is well

@@ -135,7 +135,7 @@ pub extern "C" fn c51_offer(d: Device) -> OfferedAnswer
     }
 }
 
-// The first of n cycles with one pin byte in which a flag rises, or none: 1, 4, 5, 9.
+// The first of n cycles with one pin byte in which a flag rises, or none: 1, 4, 5.
 #[no_mangle]
 pub extern "C" fn c51_look(d: Device, pins: u8, n: u64) -> LookedAnswer
     ensures { λ r. ⌜ r ≡ Numbers.lookedAnswer d pins n ⌝ }

@@ -82,7 +82,7 @@ module _ (d : Device) (r : Ranges d) where
   pub few-ticks : (pins fell : ℕ) → TicksOk (ticksIn d (timersStep (d .timers) pins) (timer2Step (d .timer2) fell))
   unfolding ticksIn
   few-ticks pins fell =
-      ticks-ok (d .pcon) (d .timer2 .t2con) (d .serial) (timersStep (d .timers) pins .timer1) (timer2Step (d .timer2) fell .overflows)
+      ticks-ok (d .pcon) (d .timer2 .t2con) (d .serial) (timersStep (d .timers) pins .overflow1) (timer2Step (d .timer2) fell .overflows)
       (r .serial .half) (timers.step-kept (d .timers) timers-bytes pins .one) (timer2.step-kept (d .timer2) fell timer2-bytes .overflows)
 
   pub few-ticks-of : (pins fell : ℕ) {t : TimersCounted} {u : Timer2Counted} {k : Ticks}

@@ -11,12 +11,19 @@ use machine::Timer2;
 use machine::Timer2Counted;
 use machine::Timers;
 use machine::TimersCounted;
+use machine::places::INT0;
+use machine::places::INT1;
+use machine::places::RXD;
+use machine::places::T0;
+use machine::places::T1;
+use machine::places::T2;
+use machine::places::T2EX;
 
 // The pin byte as the kind takes it: kind 51 takes T2 and T2EX as 1.
 pub fn pins_of(kind: u8, pins: u8) -> u8
     ensures { λ r. ⌜ r ≡ pinsOf kind pins ⌝ }
 {
-    laws::picked(kind == 51, (pins | 0x20) | 0x40, pins)
+    laws::picked(kind == 51, (pins | (1 << T2)) | (1 << T2EX), pins)
 }
 
 // The seven levels of a pin byte, from RXD up.
@@ -24,13 +31,13 @@ pub fn levels_of(pins: u8) -> [u8; 7]
     ensures { λ r. ⌜ r ≡ levelsOf pins ⌝ }
 {
     [
-        pins & 1,
-        (pins >> 1) & 1,
-        (pins >> 2) & 1,
-        (pins >> 3) & 1,
-        (pins >> 4) & 1,
-        (pins >> 5) & 1,
-        (pins >> 6) & 1,
+        (pins >> RXD) & 1,
+        (pins >> INT0) & 1,
+        (pins >> INT1) & 1,
+        (pins >> T0) & 1,
+        (pins >> T1) & 1,
+        (pins >> T2) & 1,
+        (pins >> T2EX) & 1,
     ]
 }
 
@@ -48,12 +55,12 @@ fn falls(saved: [u8; 7], pins: u8, pin: u8) -> u8
 fn timers_after(saved: [u8; 7], pins: u8, t: Timers) -> Timers
     ensures { λ r. ⌜ r ≡ Rule.timersAfter saved pins t ⌝ }
 {
-    let zero = interrupts::external0(falls(saved, pins, 1), (pins >> 1) & 1, t.tcon);
-    let one = interrupts::external1(falls(saved, pins, 2), (pins >> 2) & 1, zero);
+    let with_ie0 = interrupts::external0(falls(saved, pins, INT0), (pins >> INT0) & 1, t.tcon);
+    let with_both = interrupts::external1(falls(saved, pins, INT1), (pins >> INT1) & 1, with_ie0);
     let mut u = t;
-    u.tcon = one;
-    u.due0 = falls(saved, pins, 3);
-    u.due1 = falls(saved, pins, 4);
+    u.tcon = with_both;
+    u.due0 = falls(saved, pins, T0);
+    u.due1 = falls(saved, pins, T1);
     u
 }
 
@@ -62,7 +69,7 @@ fn timer2_after(saved: [u8; 7], pins: u8, t: Timer2) -> Timer2
     ensures { λ r. ⌜ r ≡ Rule.timer2After saved pins t ⌝ }
 {
     let mut u = t;
-    u.due2 = falls(saved, pins, 5);
+    u.due2 = falls(saved, pins, T2);
     u
 }
 
@@ -70,7 +77,7 @@ fn timer2_after(saved: [u8; 7], pins: u8, t: Timer2) -> Timer2
 fn ticks_in(d: Device, t: TimersCounted, u: Timer2Counted) -> Ticks
     ensures { λ r. ⌜ r ≡ Rule.ticksIn d t u ⌝ }
 {
-    serial::serial_ticks(d.pcon, d.timer2.t2con, d.serial, t.timer1, u.overflows)
+    serial::serial_ticks(d.pcon, d.timer2.t2con, d.serial, t.overflow1, u.overflows)
 }
 
 // A cycle: whether a serial counter rolls over twice in it, which is refusal 9, and the device after it.
@@ -87,10 +94,10 @@ pub fn cycle_once(d: Device, pins: u8) -> Once
     let l = pins_of(d.kind, pins);
     let saved = d.levels;
     let t = timers::timers_step(d.timers, l);
-    let u = timer2::timer2_step(d.timer2, falls(saved, l, 6));
+    let u = timer2::timer2_step(d.timer2, falls(saved, l, T2EX));
     let k = ticks_in(d, t, u);
     let twice = serial::rolls_twice(k, d.serial);
-    let s = serial::serial_step(k, l & 1, d.serial);
+    let s = serial::serial_step(k, (l >> RXD) & 1, d.serial);
     let v = timers_after(saved, l, t.timers);
     let w = timer2_after(saved, l, u.timer2);
     let seen = interrupts::seen_of(v.tcon, s.scon, u.timer2.t2con);

@@ -5,6 +5,7 @@ use Prim.Native.Nat.{ℕ, _+_, _*_, _<_, _≤_}
 use native.Mathlib.Nat.{le-trans, sub-le}
 use native.Mathlib.Omega.{arith}
 use lib.Dec.{eqb, lit<, lit≤}
+use Rattle.laws.proofs.Choices.{chosen}
 use Rattle.laws.proofs.Bits.{set-lt, clear-lt}
 use Rattle.machine.specs.Bits.{bit, setBit, clearBit}
 use Rattle.machine.specs.Registers.{TF0, TF1, IE0, IE1, IT0, IT1, RI, TI, TF2, EXF2}
@@ -19,11 +20,6 @@ pub record Ranges (i : Interrupts) : Type 0 where
   pub polled : i .polled ≤ 63
   pub low : i .low ≤ 1
   pub high : i .high ≤ 1
-
--- a choice has what both have
-chosen : {A : Type 0} (P : A → Type 0) (t : Bool) (x y : A) → P x → P y → P (cond t x y)
-chosen P true x y h l = h
-chosen P false x y h l = l
 
 abbrev Byte : ℕ → Type 0
 Byte n = n < 256
@@ -96,10 +92,6 @@ unfolding offered One
 offered-one i =
     chosen One (eqb (i .high) 1) none _ tt
     (or-one (firstOf (asksMarked i) sources) _ (first-one (asksMarked i)) (chosen One (eqb (i .low) 1) none _ tt (first-one (asks i))))
-
-pub offered-source : (i : Interrupts) (k : ℕ) → offered i ≡ source k → k < 6
-unfolding One
-offered-source i k e = subst One e (offered-one i)
 
 -- read from its number: below 6 that source, 6 none
 number-source : (s : Source) → numberOf s < 6 → s ≡ source (numberOf s)

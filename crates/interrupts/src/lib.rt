@@ -5,28 +5,35 @@ ghost use Rattle.machine.specs.Registers as Registers;
 ghost use Rattle.machine.specs.Interrupts as Interrupt;
 ghost use Rattle.interrupts.specs.Number.{numberOf, firstSet};
 use machine::Interrupts;
+use machine::places::EA;
+use machine::places::IE0;
+use machine::places::IE1;
+use machine::places::IT0;
+use machine::places::IT1;
+use machine::places::TF0;
+use machine::places::TF1;
 
 // TCON with IE0 as the pin INT0 leaves it: on a fall with IT0 = 1, by its level with IT0 = 0.
 pub fn external0(fell: u8, level: u8, tcon: u8) -> u8
     ensures { λ r. ⌜ r ≡ Interrupt.external Registers.IT0 Registers.IE0 fell level tcon ⌝ }
 {
-    let set = tcon | 0x02;
+    let set = tcon | (1 << IE0);
     let by_edge = laws::picked(fell == 1, set, tcon);
-    let by_level = laws::picked(level == 0, set, tcon & 0xfd);
-    laws::picked((tcon & 1) == 1, by_edge, by_level)
+    let by_level = laws::picked(level == 0, set, tcon & !(1 << IE0));
+    laws::picked(((tcon >> IT0) & 1) == 1, by_edge, by_level)
 }
 
 // The same of IE1, INT1 and IT1.
 pub fn external1(fell: u8, level: u8, tcon: u8) -> u8
     ensures { λ r. ⌜ r ≡ Interrupt.external Registers.IT1 Registers.IE1 fell level tcon ⌝ }
 {
-    let set = tcon | 0x08;
+    let set = tcon | (1 << IE1);
     let by_edge = laws::picked(fell == 1, set, tcon);
-    let by_level = laws::picked(level == 0, set, tcon & 0xf7);
-    laws::picked(((tcon >> 2) & 1) == 1, by_edge, by_level)
+    let by_level = laws::picked(level == 0, set, tcon & !(1 << IE1));
+    laws::picked(((tcon >> IT1) & 1) == 1, by_edge, by_level)
 }
 
-// What seen takes: IE0, TF0, IE1, TF1, RI or TI, TF2 or EXF2, from bit 0.
+// What seen takes: IE0, TF0, IE1, TF1, RI or TI, TF2 or EXF2, from bit 0. IE0 and IE1 move down by 1, TF0 and TF1 by 4.
 pub fn seen_of(tcon: u8, scon: u8, t2con: u8) -> u8
     ensures { λ r. ⌜ r ≡ Interrupt.seenOf tcon scon t2con ⌝ }
 {
@@ -47,7 +54,7 @@ fn first_of(sources: u8) -> u8
 pub fn offered(i: Interrupts) -> u8
     ensures { λ r. ⌜ r ≡ numberOf (Interrupt.offered i) ⌝ }
 {
-    let enabled = laws::picked(((i.ie >> 7) & 1) == 1, i.ie & 0x3f, 0);
+    let enabled = laws::picked(((i.ie >> EA) & 1) == 1, i.ie & 0x3f, 0);
     let asking = i.polled & enabled;
     let marked = asking & i.ip;
     let unmarked = laws::picked(i.low == 1, 0, asking);
@@ -85,17 +92,17 @@ pub fn taken(k: u8, tcon: u8) -> u8
     ensures { λ r. ⌜ r ≡ Interrupt.taken k tcon ⌝ }
 {
     match k {
-        0 => laws::picked((tcon & 1) == 1, tcon & 0xfd, tcon),
-        1 => tcon & 0xdf,
-        2 => laws::picked(((tcon >> 2) & 1) == 1, tcon & 0xf7, tcon),
-        3 => tcon & 0x7f,
+        0 => laws::picked(((tcon >> IT0) & 1) == 1, tcon & !(1 << IE0), tcon),
+        1 => tcon & !(1 << TF0),
+        2 => laws::picked(((tcon >> IT1) & 1) == 1, tcon & !(1 << IE1), tcon),
+        3 => tcon & !(1 << TF1),
         _ => tcon,
     }
 }
 
 // Nothing in service.
-pub fn idle(i: Interrupts) -> bool
-    ensures { λ r. ⌜ r ≡ Interrupt.idle i ⌝ }
+pub fn none_in_service(i: Interrupts) -> bool
+    ensures { λ r. ⌜ r ≡ Interrupt.noneInService i ⌝ }
 {
     (i.high == 0) & (i.low == 0)
 }

@@ -1,19 +1,14 @@
 // Jumps by rounds: a round is one busy cycle, or one stride over the quiet run ahead. Jump, trace run and look ahead go by the same rounds.
 ghost use mathlib.Core.Path.{_≡_};
 ghost use mathlib.Core.Bool.{true, false};
-ghost use Prim.Native.Nat.{_≤_, min};
+ghost use Prim.Native.Nat.{_≤_};
 ghost use Rattle.machine.specs.Record.{accepted};
 ghost use Rattle.machine.specs.Calls.{longest, entryPins, entryCycles, traceFault, flags, anyRises, firstRise};
 ghost use Rattle.jump.specs.Rounds.{entryFault, Crossed, Advanced, Traced};
+use laws::least;
 use machine::Device;
 use machine::LookAnswer;
-
-// The smaller of two numbers of cycles.
-fn least(a: u64, b: u64) -> u64
-    ensures { λ r. ⌜ r ≡ min a b ⌝ }
-{
-    if a < b { a } else { b }
-}
+use machine::MOST_ENTRIES;
 
 // What a round passes: whether a cycle of it is refused by 9, how many cycles it has, and the device after them.
 pub struct Round {
@@ -140,9 +135,6 @@ fn entry_fault(e: u32) -> u8
     let cycles = entry_cycles(e);
     laws::picked(pins < 128, laws::picked(cycles == 0, 8, 0), 4)
 }
-
-// The most entries of a trace.
-const MOST_ENTRIES: usize = 65536;
 
 // The number by which a trace is refused, or 0: 5 goes first, then its first bad entry.
 pub fn trace_fault(entries: &[u32]) -> u8

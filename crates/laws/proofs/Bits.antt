@@ -7,13 +7,15 @@ use Prim.Native.Nat.{ℕ, zero, suc, _+_, _-_, _*_, _/_, _%_, _^_, _<_, _≤_, z
 use native.Mathlib.Nat.{pow-suc, mod-lt, zero-lt-suc, mod-eq-of-lt, one-mul, div-one, div-eq-of-lt, le-trans, div-add-mod', div-lt-iff-lt-mul, mod-mod, suc-mul, zero-mul}
 use native.Mathlib.Numerals.{one-add}
 use native.Mathlib.Omega.{arith}
-use lib.Dec.{ltb}
+use lib.Dec.{eqb, ltb}
 use borrow.Author.Tests.{ltb-true, ltb-false}
 use lib.Pow as P
 use lib.Pow.{pow-lt, pow-mono, pow-pos, pow-add, split, high, low, mod-mod-pow, shl-exact, shr-lt, shr-shr, ones-lt, suc-ones}
 use lib.Arith.{bin-ind, digits-mod}
 use lib.Bits.{bitAnd, bitOr, and-mask, and-high, and-step, and-shr, and-mod, and-block, and-self, and-zero-r, and-le-r, mask-lt, or-add-and, or-shifted, or-shifted-r, or-zero-r}
 use Rattle.machine.specs.Bits.{bit, setBit, clearBit, putBit, field}
+use Rattle.machine.specs.Timers.{flagged}
+use Rattle.laws.proofs.Choices.{chosen}
 
 -- a bit is 0 or 1
 pub bit-below : (k x : ℕ) → bit k x < 2
@@ -51,20 +53,12 @@ or-shl x k h =
 pub join16 : (th tl : ℕ) → th < 256 → tl < 256 → bitOr (th * 2 ^ 8 % 2 ^ 16) tl ≡ th * 256 + tl
 join16 th tl h l = rw (mod-eq-of-lt {n = th * 256} {m = 65536} (omega arith)) (or-shifted th 8 tl l)
 
--- `lo | (hi << k)` on bytes
-pub join-bits : (hi k lo : ℕ) → hi * 2 ^ k < 256 → lo < 2 ^ k → bitOr lo (hi * 2 ^ k % 256) ≡ hi * 2 ^ k + lo
-join-bits hi k lo h l = ap (bitOr lo) (mod-eq-of-lt h) ∙ or-shifted-r hi k lo l
-
 -- `x & (2^w - 1)`, and `(x >> k) & (2^w - 1)`
 pub and-low : (x w : ℕ) → bitAnd x (2 ^ w - 1) ≡ field 0 w x
 and-low x w = and-mask x w ∙ ap (λ (n : ℕ). n % 2 ^ w) (sym (div-one x))
 
 pub and-field : (x k w : ℕ) → bitAnd (x / 2 ^ k) (2 ^ w - 1) ≡ field k w x
 and-field x k w = and-mask (x / 2 ^ k) w
-
--- a byte has no bit past the eighth
-pub bit-past : (x k : ℕ) → x < 256 → 8 ≤ k → 0 ≡ bit k x
-bit-past x k h l = sym (ap (λ (n : ℕ). n % 2) (div-eq-of-lt (le-trans h (pow-mono l))))
 
 -- what the code's masks and the definitions' bits both come to, for `simp`
 pub low1 : (x : ℕ) → bitAnd x 1 ≡ x % 2
@@ -181,29 +175,19 @@ put-lt w k c x h l b =
 pub bit-set : (k x : ℕ) → bit k (setBit k x) ≡ 1
 bit-set k x = ap (bit k) (set-put k x) ∙ bit-put k 1 x (omega arith)
 
-pub bit-clear : (k x : ℕ) → bit k (clearBit k x) ≡ 0
-bit-clear k x = ap (bit k) (clear-put k x) ∙ bit-put k 0 x (omega arith)
-
 pub bit-set-other : (j k x : ℕ) → j ≢ k → bit j (setBit k x) ≡ bit j x
 bit-set-other j k x d = ap (bit j) (set-put k x) ∙ bit-put-other j k 1 x d (omega arith)
-
-pub bit-clear-other : (j k x : ℕ) → j ≢ k → bit j (clearBit k x) ≡ bit j x
-bit-clear-other j k x d = ap (bit j) (clear-put k x) ∙ bit-put-other j k 0 x d (omega arith)
-
-pub field-set-below : (j w k x : ℕ) → j + w ≤ k → field j w (setBit k x) ≡ field j w x
-field-set-below j w k x h = ap (field j w) (set-put k x) ∙ field-put-below j w k 1 x h
-
-pub field-clear-below : (j w k x : ℕ) → j + w ≤ k → field j w (clearBit k x) ≡ field j w x
-field-clear-below j w k x h = ap (field j w) (clear-put k x) ∙ field-put-below j w k 0 x h
 
 pub field-set-above : (j w k x : ℕ) → k < j → field j w (setBit k x) ≡ field j w x
 field-set-above j w k x h = ap (field j w) (set-put k x) ∙ field-put-above j w k 1 x h (omega arith)
 
-pub field-clear-above : (j w k x : ℕ) → k < j → field j w (clearBit k x) ≡ field j w x
-field-clear-above j w k x h = ap (field j w) (clear-put k x) ∙ field-put-above j w k 0 x h (omega arith)
-
 pub set-lt : (w k x : ℕ) → k < w → x < 2 ^ w → setBit k x < 2 ^ w
 set-lt w k x h l = subst (λ (n : ℕ). n < 2 ^ w) (sym (set-put k x)) (put-lt w k 1 x h (omega arith) l)
+
+-- a flag that an overflow sets keeps the width
+pub flagged-lt : (w k o x : ℕ) → k < w → x < 2 ^ w → flagged k o x < 2 ^ w
+unfolding flagged
+flagged-lt w k o x h l = chosen (λ (n : ℕ). n < 2 ^ w) (eqb o 1) _ _ (set-lt w k x h l) l
 
 pub clear-lt : (w k x : ℕ) → x < 2 ^ w → clearBit k x < 2 ^ w
 clear-lt w k x l = omega arith
@@ -214,9 +198,6 @@ put-same k x = put-parts k (bit k x) x ∙ parts k x
 
 pub set-same : (k x : ℕ) → bit k x ≡ 1 → setBit k x ≡ x
 set-same k x e = set-put k x ∙ ap (λ (c : ℕ). putBit k c x) (sym e) ∙ put-same k x
-
-pub clear-same : (k x : ℕ) → bit k x ≡ 0 → clearBit k x ≡ x
-clear-same k x e = clear-put k x ∙ ap (λ (c : ℕ). putBit k c x) (sym e) ∙ put-same k x
 
 pub put-put : (k c d x : ℕ) → d < 2 → putBit k c (putBit k d x) ≡ putBit k c x
 put-put k c d x h =
@@ -308,15 +289,8 @@ and-twice x m = and-assoc x m m ∙ ap (bitAnd x) (and-self m)
 pub lt-within : (w x : ℕ) → x < 2 ^ w → bitAnd x (2 ^ w - 1) ≡ x
 lt-within w x h = and-mask x w ∙ mod-eq-of-lt h
 
-pub within-lt : (w x : ℕ) → bitAnd x (2 ^ w - 1) ≡ x → x < 2 ^ w
-within-lt w x e = subst (λ (n : ℕ). n < 2 ^ w) e (mask-lt x w)
-
 pub within-le : (x m : ℕ) → bitAnd x m ≡ x → x ≤ m
 within-le x m e = subst (λ (n : ℕ). n ≤ m) e (and-le-r x m)
-
--- a bit outside the mask is 0
-pub within-bit : (k x m : ℕ) → bitAnd x m ≡ x → bit k m ≡ 0 → bit k x ≡ 0
-within-bit k x m e z = let b : bit k x ≡ min (bit k x) (bit k m) = ap (bit k) (sym e) ∙ bit-and k x m in omega arith
 
 -- a bit of the mask may be put, set and cleared, and any bit be cleared
 pub within-put : (k c x m : ℕ) → c ≤ bit k m → bitAnd x m ≡ x → bitAnd (putBit k c x) m ≡ putBit k c x
@@ -341,9 +315,3 @@ within-put k c x m h e =
 
     single : bitAnd c (bit k m) ≡ c
     single = one-bit c (bit k m) (bit-below k m) h
-
-pub within-set : (k x m : ℕ) → bit k m ≡ 1 → bitAnd x m ≡ x → bitAnd (setBit k x) m ≡ setBit k x
-within-set k x m b e = subst (λ (n : ℕ). bitAnd n m ≡ n) (sym (set-put k x)) (within-put k 1 x m (omega arith) e)
-
-pub within-clear : (k x m : ℕ) → bitAnd x m ≡ x → bitAnd (clearBit k x) m ≡ clearBit k x
-within-clear k x m e = subst (λ (n : ℕ). bitAnd n m ≡ n) (sym (clear-put k x)) (within-put k 0 x m zero-le e)

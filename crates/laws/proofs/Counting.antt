@@ -1,14 +1,16 @@
 -- Laws of counting for any width: one count, m counts, and m counts with a reload, by induction on the counts.
 use mathlib.Core.Path.{_≡_, refl, sym, ap, ap₂, _∙_}
 use mathlib.Core.Bool.{Bool, true, false, cond}
+use mathlib.Core.Logic.{⊎-elim}
 use Prim.Native.Nat.{ℕ, zero, suc, _+_, _-_, _*_, _/_, _%_, _^_, _<_, _≤_, zero-le}
-use native.Mathlib.Nat.{add-zero, zero-add, add-comm, add-assoc, mod-lt, mod-eq-of-lt, mod-self, mod-add-mod, mod-eq-sub-mod, div-eq-of-lt, div-self, div-eq-sub-div, div-add-mod', div-lt-iff-lt-mul, mul-add-div-right}
+use native.Mathlib.Nat.{add-zero, zero-add, add-comm, add-assoc, mod-lt, mod-eq-of-lt, mod-self, mod-add-mod, mod-eq-sub-mod, div-eq-of-lt, div-self, div-eq-sub-div, eq-or-lt-of-le, div-add-mod', div-lt-iff-lt-mul, mul-add-div-right}
 use native.Mathlib.Omega.{arith}
 use lib.Dec.{eqb, ltb}
 use lib.Pow.{pow-pos}
-use borrow.Author.Tests.{ltb-true, ltb-false}
+use borrow.Author.Tests.{ltb-true, ltb-false, ne-eqb}
+use Rattle.machine.specs.declared.Count.{Count}
 use Rattle.machine.specs.Counting.{next, overflow, nextOr}
-use Rattle.machine.specs.Timer2.{lap, laps}
+use Rattle.machine.specs.Timer2.{countOnce, countTimes}
 use Rattle.laws.specs.Counting.{counts, overflows, countsOr, overflowsOr, lapFrom, countAfter, overflowsAfter}
 
 -- ---- one count
@@ -20,12 +22,24 @@ next-up w n h = mod-eq-of-lt h
 pub overflow-up : (w n : ℕ) → n + 1 < 2 ^ w → overflow w n ≡ 0
 overflow-up w n h = div-eq-of-lt h
 
--- all ones: zero, and an overflow
-pub next-over : (w n : ℕ) → n + 1 ≡ 2 ^ w → next w n ≡ 0
-next-over w n e = ap (λ (m : ℕ). m % 2 ^ w) e ∙ mod-self (2 ^ w)
-
 pub overflow-over : (w n : ℕ) → n + 1 ≡ 2 ^ w → overflow w n ≡ 1
 overflow-over w n e = ap (λ (m : ℕ). m / 2 ^ w) e ∙ div-self (pow-pos w)
+
+-- a number up to p: p goes to zero, and carries
+to-zero : (p m : ℕ) → 0 < m → m ≤ p → cond (eqb (m % p) 0) 1 0 ≡ m / p
+to-zero p m h l =
+    ⊎-elim
+    (λ e. simp (e, mod-self p, div-self {n = p} (omega arith)))
+    (λ less. simp (mod-eq-of-lt {n = m} {m = p} less, div-eq-of-lt {n = m} {m = p} less, ne-eqb m 0 (omega arith)))
+    (eq-or-lt-of-le l)
+
+-- a count of w bits overflows exactly where the next number is zero
+pub carry : (w n : ℕ) → n < 2 ^ w → cond (eqb (next w n) 0) 1 0 ≡ overflow w n
+carry w n h = to-zero (2 ^ w) (n + 1) (omega arith) (omega arith)
+
+-- a timer's pair after a count, field by field
+pub count-eq : {a b : Count} → a .tl ≡ b .tl → a .th ≡ b .th → a .overflow ≡ b .overflow → a ≡ b
+count-eq p q r = λ i. record { tl = p i; th = q i; overflow = r i }
 
 -- the count stays one of w bits
 pub next-lt : (w n : ℕ) → next w n < 2 ^ w
@@ -71,13 +85,6 @@ overflows-div (suc m) w n h =
   where
     carried : (a b : ℕ) → a + b ≡ n + 1 → a + (b + m) ≡ n + suc m
     carried a b e = omega arith
-
--- without overflow
-pub counts-up : (m w n : ℕ) → n + m < 2 ^ w → counts m w n ≡ n + m
-counts-up m w n h = counts-mod m w n (omega arith) ∙ mod-eq-of-lt h
-
-pub overflows-up : (m w n : ℕ) → n + m < 2 ^ w → overflows m w n ≡ 0
-overflows-up m w n h = overflows-div m w n (omega arith) ∙ div-eq-of-lt h
 
 -- ---- m counts with a reload
 
@@ -193,25 +200,25 @@ overflowsOr-le zero w reload n r h = zero-le
 overflowsOr-le (suc m) w reload n r h =
     omega (arith, overflow-le w n h, overflowsOr-le m w reload (nextOr w reload n) r (nextOr-lt w reload n r))
 
--- ---- the laps of Timer 2 are counts of 16 bits with a reload
-pub laps-are : (m reload c o : ℕ)
-    → laps m reload (record { count = c; overflows = o })
+-- ---- several counts of Timer 2 are counts of 16 bits with a reload
+pub countTimes-are : (m reload c o : ℕ)
+    → countTimes m reload (record { count = c; overflows = o })
     ≡ record { count = countsOr m 16 reload c; overflows = o + overflowsOr m 16 reload c }
-unfolding countsOr overflowsOr lap laps
-laps-are zero reload c o = λ i. record { count = c; overflows = sym (add-zero o) i }
-laps-are (suc m) reload c o =
-    laps-are m reload (nextOr 16 reload c) (o + overflow 16 c)
+unfolding countsOr overflowsOr countOnce countTimes
+countTimes-are zero reload c o = λ i. record { count = c; overflows = sym (add-zero o) i }
+countTimes-are (suc m) reload c o =
+    countTimes-are m reload (nextOr 16 reload c) (o + overflow 16 c)
     ∙ (λ i. record {
       count = countsOr m 16 reload (nextOr 16 reload c);
       overflows = add-assoc o (overflow 16 c) (overflowsOr m 16 reload (nextOr 16 reload c)) i;
     })
 
 -- Timer 2 over m counts at once
-pub laps-after : (m reload c o : ℕ) → reload < 2 ^ 16 → c < 2 ^ 16
-    → laps m reload (record { count = c; overflows = o })
+pub countTimes-after : (m reload c o : ℕ) → reload < 2 ^ 16 → c < 2 ^ 16
+    → countTimes m reload (record { count = c; overflows = o })
     ≡ record { count = countAfter m 16 reload c; overflows = o + overflowsAfter m 16 reload c }
-laps-after m reload c o r h =
-    laps-are m reload c o
+countTimes-after m reload c o r h =
+    countTimes-are m reload c o
     ∙ (λ i. record { count = countsOr-after m 16 reload c r h i; overflows = o + overflowsOr-after m 16 reload c r h i })
 
 -- ---- the widths of the timers, each with a case counted out
@@ -241,7 +248,7 @@ case-13 : (overflows 3 13 0x1ffe ≡ 1) × (counts 3 13 0x1ffe ≡ 1)
 unfolding overflows counts
 case-13 = (refl, refl)
 
--- 16 bits, mode 1; Timer 2 with its reload is `laps-after`
+-- 16 bits, mode 1; Timer 2 with its reload is `countTimes-after`
 pub count-16 : (m n : ℕ) → n < 65536 → counts m 16 n ≡ (n + m) % 65536
 count-16 m = counts-mod m 16
 

@@ -1,3 +1,4 @@
+pub mod Choices
 pub mod Tests
 pub mod Bits
 pub mod Counting

@@ -1,6 +1,8 @@
-// Laws of bits and fields for any place, and of counting for any width: proofs/. Here the choices that the parts share.
+// Laws of bits and fields for any place, and of counting for any width: proofs/. Here what the parts share.
 ghost use mathlib.Core.Path.{_≡_};
 ghost use mathlib.Core.Bool.{cond};
+ghost use Prim.Native.Nat.{min};
+ghost use Rattle.machine.specs.Counting as Counting;
 
 // One of two bytes.
 pub fn picked(b: bool, x: u8, y: u8) -> u8
@@ -14,4 +16,18 @@ pub fn picked16(b: bool, x: u16, y: u16) -> u16
     ensures { λ r. ⌜ r ≡ cond b x y ⌝ }
 {
     if b { x } else { y }
+}
+
+// The smaller of two numbers of cycles.
+pub fn least(a: u64, b: u64) -> u64
+    ensures { λ r. ⌜ r ≡ min a b ⌝ }
+{
+    if a < b { a } else { b }
+}
+
+// The 16 bits of a register pair.
+pub fn pair16(tl: u8, th: u8) -> u16
+    ensures { λ r. ⌜ r ≡ Counting.pair16 tl th ⌝ }
+{
+    ((th as u16) << 8) | (tl as u16)
 }

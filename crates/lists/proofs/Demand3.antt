@@ -16,7 +16,7 @@ use Rattle.lists.proofs.Spells.{spelled}
 use Rattle.lists.proofs.Replayed.{replayed}
 
 -- a call that keeps its contract is played as the machine plays it
-kept-played : {c : Call} {d : Device} {p : Played} → Kept c d p → p ≡ play c d
+pub kept-played : {c : Call} {d : Device} {p : Played} → Kept c d p → p ≡ play c d
 unfolding play
 kept-played (Kept.reset e) = ap (λ (a : Answer). played (replyOf a) (a .device)) e
 kept-played (Kept.read {d = d} e) = ap (λ (a : ReadAnswer). played (replyOfRead a) d) e

@@ -2,4 +2,5 @@ pub mod Replays
 pub mod Spells
 pub mod Looks
 pub mod Demand3
+pub mod Cuts
 pub mod Replayed

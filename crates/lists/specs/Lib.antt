@@ -1,3 +1,4 @@
 pub mod Script
 pub mod Spelling
 pub mod Demand3
+pub mod Cuts

@@ -1,5 +1,6 @@
 -- Document 01, "Jumps, traces, looking ahead", "The plain machine" and "Refused calls": the answer of each call and the device after it.
--- Refusals are judged in the table's order; a refused call leaves the device as given.
+-- Refusals are judged in the table's order, but for a trace, which has its own; a refused call leaves the device as given, but for a
+-- refused reset, which leaves the record of zeros.
 use Prim.Native.Nat.{ℕ, zero, suc, _+_, _/_, _%_, _^_}
 use mathlib.Core.Bool.{Bool, true, false, cond, _&&_, _||_, not}
 use mathlib.Core.List.{List, [], _∷_}
@@ -23,15 +24,15 @@ use Rattle.machine.specs.Bits.{bit, field}
 use Rattle.machine.specs.Registers.{PCON, TCON, TMOD, TL0, TL1, TH0, TH1, SCON, SBUF, IE, IP, T2CON, RCAP2L, RCAP2H, TL2, TH2, TF0, TF1, IE0, IE1, RI, TI, TF2, EXF2, lacks, kept}
 use Rattle.machine.specs.Record.{Register, registers, accepted, pinsOk, kindOk, zeros, resetOf}
 use Rattle.machine.specs.Serial.{lineOf, writeSbuf, writeScon}
-use Rattle.machine.specs.Interrupts.{Source, offered, vectorOf, inService, taken, idle, returned}
+use Rattle.machine.specs.Interrupts.{Source, offered, vectorOf, inService, taken, noneInService, returned}
 use Rattle.machine.specs.Interrupts.Source.{none, source}
 use Rattle.machine.specs.Cycle.{cycleOf, refused9, cycles, anyRefused9}
 
--- an answer that carries no number
+-- a call that answers only that it passed
 abbrev pub passed : Device → Answer
 passed d = record { code = 0; device = d }
 
--- a refused call: its number, and the device as given
+-- a refused call: its number, and the device that it leaves
 abbrev pub refuse : ℕ → Device → Answer
 refuse n d = record { code = n; device = d }
 
@@ -169,7 +170,7 @@ traceAnswer d es =
     (cond (eqb (traceFault es) 0) (cond (traceRefused9 es d) (refuse 9 d) (passed (traceCycles es d))) (refuse (traceFault es) d))
     (refuse 1 d)
 
--- Look ahead
+-- Look ahead: document 01's term for asking when a flag will rise
 
 -- the eight flags: TF0, TF1, IE0, IE1, RI, TI, TF2, EXF2
 unfoldable pub flags : Device → List ℕ
@@ -254,5 +255,5 @@ takeAnswer d = cond (accepted d) (takeOf d (offered (d .interrupts))) (refuseTak
 unfoldable pub returnAnswer : Device → Answer
 returnAnswer d =
     cond (accepted d)
-    (cond (idle (d .interrupts)) (refuse 7 d) (passed (withInterrupts (d .timers) (returned (d .interrupts)) d)))
+    (cond (noneInService (d .interrupts)) (refuse 7 d) (passed (withInterrupts (d .timers) (returned (d .interrupts)) d)))
     (refuse 1 d)

@@ -7,10 +7,10 @@ use mathlib.Core.List.{List, [], _∷_, _++_, map}
 use lib.Dec.{eqb}
 use Rattle.machine.specs.declared.Device.{Device}
 use Rattle.machine.specs.Registers.{PCON, TCON, TMOD, TL0, TL1, TH0, TH1, SCON, SBUF, IE, IP, T2CON, RCAP2L, RCAP2H, TL2, TH2, table, implementedIn, implemented}
-use Rattle.machine.specs.Record.{registers, hiddenFields, fields, accepted, pinsOf, levelsOf, blank, zeros, resetOf}
+use Rattle.machine.specs.Record.{registers, hiddenFields, accepted, pinsOf, levelsOf, blank, zeros, resetOf}
 use Rattle.machine.specs.Counting.{count13, count16, reload8, count8, hold}
 use Rattle.machine.specs.Timers.{enabled, clocked, countIn, flagged, counts0, counts1, countsHigh0, pair0, high0, highOverflow0, pair1, timerFlags, timersStep}
-use Rattle.machine.specs.Timer2.{lap, laps, baudRate, countsOf2, heedsT2EX, captures, counted2, baudStep, copied2, captureStep, timer2Step}
+use Rattle.machine.specs.Timer2.{countOnce, countTimes, baudRate, countsOf2, heedsT2EX, captures, counted2, baudStep, copied2, captureStep, timer2Step}
 use Rattle.machine.specs.Serial.{halfAfter, ticks1, ticksOf, serialTicks, sendMove, sendTick, sendTicks, send, lineOf, receiveStart, receiveRolled, receiveCounted, votesAdded, bitOf, frameDone, receiveBit, receiveWork, receiveTick, receiveTicks, receiveShift, receive, serialStep, sendRolls, receiveRolls, rollsTwice, writeSbuf, receiveAsked, writeScon}
 use Rattle.machine.specs.Interrupts.{external, either, seenOf, firstOf, offered, inService, taken, returned}
 use Rattle.machine.specs.Cycle.{falls, externals, timersAfter, timer2After, ticksIn, steps as stepsOf, cycleOf, refused9, cycles, anyRefused9}
@@ -41,11 +41,6 @@ sameReplies [] (b ∷ bs) = false
 sameReplies (a ∷ more) [] = false
 sameReplies (a ∷ more) (b ∷ bs) = sameReply a b && sameReplies more bs
 
--- how often a reply was given
-times : Reply → List Reply → ℕ
-times r [] = 0
-times r (a ∷ more) = cond (sameReply r a) 1 0 + times r more
-
 -- a call and the reply that the card gives it
 record Asked : Type 0 where
   pub call : Call
@@ -57,7 +52,7 @@ asked c r = record { call = c; reply = r }
 abbrev gives : ℕ → Reply
 gives n = says 0 (number n)
 
--- every pin high, and T0 low
+-- every pin high; T0 low; RXD low
 abbrev high : ℕ
 high = 0x7f
 
@@ -89,15 +84,18 @@ offers v = asked offer (gives v)
 abbrev offersNone : Asked
 offersNone = asked offer (says 0 none)
 
--- a row whose replies are all given
-abbrev rowOf : ℕ → ℕ → List Asked → Row
-rowOf card kind steps =
+-- a row whose replies are all given, and whose device at the end passes a test
+rowWith : (Device → Bool) → ℕ → ℕ → List Asked → Row
+rowWith ends card kind steps =
     record {
       card = card;
       kind = kind;
       calls = map (λ (a : Asked). a .call) steps;
-      test = λ r. sameReplies (r .replies) (map (λ (a : Asked). a .reply) steps);
+      test = λ r. sameReplies (r .replies) (map (λ (a : Asked). a .reply) steps) && ends (r .device);
     }
+
+abbrev rowOf : ℕ → ℕ → List Asked → Row
+rowOf = rowWith (λ d. true)
 
 -- Timer 0 mode 1 at FFFE, running, IE 82: TF0 rises in cycle 2; none offered after 2, 000B after 3
 card1 : ℕ → Row
@@ -141,26 +139,22 @@ card2 kind =
     ∷ []
     )
 
--- mode 2, TH1 FD, TL1 FE, jump 101: TL1 FD
-abbrev mode2 : List Asked
-mode2 = set TMOD 0x20 ∷ set TH1 0xfd ∷ set TL1 0xfe ∷ set TCON 0x40 ∷ []
-
+-- mode 2, TH1 FD, TL1 FE, jump 101: 34 overflows, TL1 FD. In serial mode 1 with SMOD 1 each overflow is a tick: 34 = 2 × 16 + 2
+-- roll the send counter over twice and leave 2
 card3 : ℕ → Row
-card3 kind = rowOf 3 kind (mode2 ++ (go 101 ∷ holds TL1 0xfd ∷ []))
-
--- the same: 34 overflows, each seen in TF1, which is cleared after every cycle
-again : ℕ → List Call
-again zero = []
-again (suc n) = cycle high ∷ read TCON ∷ write TCON 0x40 ∷ again n
-
-card3counted : ℕ → Row
-card3counted kind =
-    record {
-      card = 3;
-      kind = kind;
-      calls = map (λ (a : Asked). a .call) mode2 ++ again 101;
-      test = λ r. eqb (times (gives 0xc0) (r .replies)) 34 && eqb (r .device .timers .tl1) 0xfd;
-    }
+card3 kind =
+    rowWith (λ d. eqb (d .serial .send .position) 3 && eqb (d .serial .send .counter) 2) 3 kind (
+    set TMOD 0x20
+    ∷ set TH1 0xfd
+    ∷ set TL1 0xfe
+    ∷ set PCON 0x80
+    ∷ set SCON 0x40
+    ∷ set SBUF 0x00
+    ∷ set TCON 0x40
+    ∷ go 101
+    ∷ holds TL1 0xfd
+    ∷ []
+    )
 
 -- T0 falls in cycle 5: a counter moves in cycle 6, not 5
 card4 : ℕ → Row
@@ -178,8 +172,7 @@ card4 kind =
     ∷ []
     )
 
--- RCLK, RCAP2 and count FFFD: 2 overflows a cycle, count FFFD after it. The first tick finds a start bit, each other adds 1
--- to the receive counter, so that one cycle leaves 1 and four leave 7
+-- RCLK, RCAP2 and count FFFD: count FFFD after a cycle
 baud2 : List Asked
 baud2 =
     set RCAP2L 0xfd
@@ -190,22 +183,15 @@ baud2 =
     ∷ set T2CON 0x24
     ∷ []
 
-abbrev counterIs : ℕ → List Asked → Row
-counterIs n steps =
-    record {
-      card = 5;
-      kind = 52;
-      calls = map (λ (a : Asked). a .call) steps;
-      test = λ r. sameReplies (r .replies) (map (λ (a : Asked). a .reply) steps) && eqb (r .device .serial .receive .counter) n;
-    }
-
 card5 : Row
-card5 = counterIs 1 (baud2 ++ (step lowRXD ∷ holds TL2 0xfd ∷ holds TH2 0xff ∷ holds T2CON 0x24 ∷ []))
+card5 = rowOf 5 52 (baud2 ++ (step high ∷ holds TL2 0xfd ∷ holds TH2 0xff ∷ holds T2CON 0x24 ∷ []))
 
-card5more : Row
-card5more =
-    counterIs 7
-    (baud2 ++ (step lowRXD ∷ step lowRXD ∷ step lowRXD ∷ step lowRXD ∷ holds TL2 0xfd ∷ holds TH2 0xff ∷ []))
+-- and 2 overflows a cycle, counted by the receiver with RXD low: the first tick finds a start bit, each other adds 1 to its
+-- counter, so that one cycle leaves 1 and four leave 7
+card5counted : ℕ → List Asked → Row
+card5counted n steps =
+    rowWith (λ d. eqb (d .serial .receive .position) 1 && eqb (d .serial .receive .counter) n) 5 52
+    (baud2 ++ (steps ++ (holds TL2 0xfd ∷ holds TH2 0xff ∷ [])))
 
 -- serial mode 1, Timer 1 mode 2, TH1 and TL1 FF, SMOD as given, SBUF written
 mode1send : ℕ → List Asked
@@ -268,15 +254,17 @@ card9 kind =
     ∷ []
     )
 
--- setting TF1 from Timer 1 while Timer 0 is in mode 3 is wrong; it counts all the same, TR1 0 or not
-card10 : ℕ → ℕ → ℕ → Row
-card10 tmod tl kind =
-    rowOf 10 kind (
+-- setting TF1 from Timer 1 while Timer 0 is in mode 3 is wrong, with TR1 0 or 1; it counts and overflows all the same, which
+-- flips half
+card10 : ℕ → ℕ → ℕ → ℕ → Row
+card10 tcon tmod tl kind =
+    rowWith (λ d. eqb (d .serial .half) 1) 10 kind (
     set TMOD tmod
     ∷ set TH1 0xff
     ∷ set TL1 0xff
+    ∷ set TCON tcon
     ∷ step high
-    ∷ holds TCON 0x00
+    ∷ holds TCON tcon
     ∷ holds TL1 tl
     ∷ []
     )
@@ -295,9 +283,11 @@ cards =
     both card1
     ∷ both card2
     ∷ both card3
-    ∷ both card3counted
     ∷ both card4
-    ∷ (card5 ∷ card5more ∷ [])
+    ∷ (card5
+    ∷ card5counted 1 (step lowRXD ∷ [])
+    ∷ card5counted 7 (step lowRXD ∷ step lowRXD ∷ step lowRXD ∷ step lowRXD ∷ [])
+    ∷ [])
     ∷ both card6
     ∷ both card6half
     ∷ both card7
@@ -305,9 +295,12 @@ cards =
     ∷ both (card8 0x00 58)
     ∷ both card8shift
     ∷ both card9
-    ∷ both (card10 0x03 0xe0)
-    ∷ both (card10 0x13 0x00)
-    ∷ both (card10 0x23 0xff)
+    ∷ both (card10 0x00 0x03 0xe0)
+    ∷ both (card10 0x00 0x13 0x00)
+    ∷ both (card10 0x00 0x23 0xff)
+    ∷ both (card10 0x50 0x03 0xe0)
+    ∷ both (card10 0x50 0x13 0x00)
+    ∷ both (card10 0x50 0x23 0xff)
     ∷ []
     )
 
@@ -318,5 +311,5 @@ failing (r ∷ rs) = cond (r .test (machine (r .kind) (r .calls))) (failing rs) 
 
 -- no row fails
 cards-hold : failing cards ≡ []
-unfolding sameValue sameReply sameReplies times card1 card2 card3 card3counted again card4 baud2 card5 card5more mode1send card6 card6half card7 card8 card8shift card9 card10 both joined cards failing table implementedIn implemented registers hiddenFields fields accepted pinsOf levelsOf zeros resetOf count13 count16 reload8 count8 hold enabled clocked countIn flagged counts0 counts1 countsHigh0 pair0 high0 highOverflow0 pair1 timerFlags timersStep lap laps baudRate countsOf2 heedsT2EX captures counted2 baudStep copied2 captureStep timer2Step halfAfter ticks1 ticksOf serialTicks sendMove sendTick sendTicks send lineOf receiveStart receiveRolled receiveCounted votesAdded bitOf frameDone receiveBit receiveWork receiveTick receiveTicks receiveShift receive serialStep sendRolls receiveRolls rollsTwice writeSbuf receiveAsked writeScon external either seenOf firstOf offered inService taken returned falls externals timersAfter timer2After ticksIn stepsOf cycleOf refused9 cycles anyRefused9 resetAnswer valueIn registerAt readAnswer stored writeAnswer cycleAnswer jumpAnswer firstBad traceFault traceCycles traceRefused9 traceAnswer flags anyRises firstRise lookAnswer offerOf offerAnswer takeOf takeAnswer returnAnswer play run machine
+unfolding sameValue sameReply sameReplies rowWith card1 card2 card3 card4 baud2 card5 card5counted mode1send card6 card6half card7 card8 card8shift card9 card10 both joined cards failing table implementedIn implemented registers hiddenFields accepted pinsOf levelsOf zeros resetOf count13 count16 reload8 count8 hold enabled clocked countIn flagged counts0 counts1 countsHigh0 pair0 high0 highOverflow0 pair1 timerFlags timersStep countOnce countTimes baudRate countsOf2 heedsT2EX captures counted2 baudStep copied2 captureStep timer2Step halfAfter ticks1 ticksOf serialTicks sendMove sendTick sendTicks send lineOf receiveStart receiveRolled receiveCounted votesAdded bitOf frameDone receiveBit receiveWork receiveTick receiveTicks receiveShift receive serialStep sendRolls receiveRolls rollsTwice writeSbuf receiveAsked writeScon external either seenOf firstOf offered inService taken returned falls externals timersAfter timer2After ticksIn stepsOf cycleOf refused9 cycles anyRefused9 resetAnswer valueIn registerAt readAnswer stored writeAnswer cycleAnswer jumpAnswer firstBad traceFault traceCycles traceRefused9 traceAnswer flags anyRises firstRise lookAnswer offerOf offerAnswer takeOf takeAnswer returnAnswer play run machine
 cards-hold = refl

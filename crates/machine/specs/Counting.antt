@@ -50,6 +50,6 @@ reload8 tl th = record { tl = nextOr 8 th tl; th = th; overflow = overflow 8 tl 
 unfoldable pub count8 : ℕ → ℕ → Count
 count8 tl th = record { tl = next 8 tl; th = th; overflow = overflow 8 tl }
 
--- Timer 1 in mode 3 holds
+-- no count: a timer that is not clocked, and Timer 1 in mode 3, which holds
 unfoldable pub hold : ℕ → ℕ → Count
 hold tl th = record { tl = tl; th = th; overflow = 0 }

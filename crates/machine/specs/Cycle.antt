@@ -24,7 +24,7 @@ use Rattle.machine.specs.Interrupts.{external, seenOf}
 unfoldable pub falls : List ℕ → ℕ → ℕ → ℕ
 falls saved pins pin = cond (eqb (getD saved pin 0) 1 && eqb (bit pin pins) 0) 1 0
 
--- step 1: polled takes seen; and step 8: seen takes the flags
+-- step 1: polled takes seen, so that a flag is heard one cycle after it was seen; and step 8: seen takes the flags
 abbrev pub polling : ℕ → Interrupts → Interrupts
 polling seen i = record { ie = i .ie; ip = i .ip; seen = seen; polled = i .seen; low = i .low; high = i .high }
 
@@ -34,7 +34,7 @@ externals saved pins tcon =
     external IT1 IE1 (falls saved pins INT1) (bit INT1 pins)
     (external IT0 IE0 (falls saved pins INT0) (bit INT0 pins) tcon)
 
--- steps 6 and 7 of Timers 0 and 1: due marks become 1 where T0, T1 fell, otherwise 0
+-- steps 6 and 7 of Timers 0 and 1: due marks become 1 where T0, T1 fell, otherwise 0 (a counter counts in the cycle after a fall)
 unfoldable pub timersAfter : List ℕ → ℕ → Timers → Timers
 timersAfter saved pins t =
     record {
@@ -62,9 +62,10 @@ timer2After saved pins t =
 
 -- step 4, with what steps 2 and 3 hand on: the overflows of Timers 1 and 2
 unfoldable pub ticksIn : Device → TimersCounted → Timer2Counted → Ticks
-ticksIn d t u = serialTicks (d .pcon) (d .timer2 .t2con) (d .serial) (t .timer1) (u .overflows)
+ticksIn d t u = serialTicks (d .pcon) (d .timer2 .t2con) (d .serial) (t .overflow1) (u .overflows)
 
--- steps 1 to 8, the pin byte as the kind takes it
+-- steps 1 to 8, the pin byte as the kind takes it: t is step 2, u step 3, s steps 4 and 5, v steps 6 and 7; step 7 of Timer 2 is
+-- timer2After, steps 1 and 8 are polling, and step 8 saves the levels and counts the cycle
 unfoldable pub steps : Device → ℕ → Device
 steps d pins =
     let t = timersStep (d .timers) pins in

@@ -16,7 +16,7 @@ external it ie fell level tcon =
     (cond (eqb fell 1) (setBit ie tcon) tcon)
     (cond (eqb level 0) (setBit ie tcon) (clearBit ie tcon))
 
--- Step 8: seen takes IE0, TF0, IE1, TF1, RI or TI, TF2 or EXF2, from bit 0
+-- Step 8: seen (document 01's term for the flags as a cycle leaves them) takes IE0, TF0, IE1, TF1, RI or TI, TF2 or EXF2, from bit 0
 
 -- 1 where either is
 unfoldable pub either : ℕ → ℕ → ℕ
@@ -27,7 +27,8 @@ seenOf tcon scon t2con =
     bit IE0 tcon + bit TF0 tcon * 2 + bit IE1 tcon * 4 + bit TF1 tcon * 8 + either (bit RI scon) (bit TI scon) * 16
     + either (bit TF2 t2con) (bit EXF2 t2con) * 32
 
--- Offer, take, return. A source is its bit in polled, 0 to 5
+-- Offer, take, return. A source is its bit in polled, 0 to 5. Document 01's offer is the interrupt that the controller would
+-- serve now, its take the vectoring to it, its return the RETI
 
 -- a source, or none
 pub data Source : Type 0 where
@@ -86,8 +87,8 @@ taken k tcon =
     (cond (eqb k 3) (clearBit TF1 tcon) tcon)))
 
 -- nothing in service
-abbrev pub idle : Interrupts → Bool
-idle i = eqb (i .high) 0 && eqb (i .low) 0
+abbrev pub noneInService : Interrupts → Bool
+noneInService i = eqb (i .high) 0 && eqb (i .low) 0
 
 -- a return clears high, or else low
 unfoldable pub returned : Interrupts → Interrupts

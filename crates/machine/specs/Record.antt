@@ -85,13 +85,6 @@ hiddenFields d =
     ∷ hidden (d .cycle) (2 ^ 64 - 1)
     ∷ []
 
--- every field's value, in document 01's order: the kind, the registers, the hidden fields, the saved levels
-unfoldable pub fields : Device → List ℕ
-fields d =
-    d .kind
-    ∷ (map (λ (r : Register). r .value) (registers d)
-    ++ (map (λ (h : Hidden). h .value) (hiddenFields d) ++ d .levels))
-
 -- each register within its implemented bits; on kind 51 the Timer 2 registers have none and are 0
 abbrev pub registersOk : ℕ → List Register → Bool
 registersOk kind [] = true

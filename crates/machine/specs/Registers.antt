@@ -35,7 +35,7 @@ IE0 = 1
 abbrev pub IT0 : ℕ
 IT0 = 0
 
--- TMOD: GATE, C/T and the two mode bits of each timer
+-- TMOD: GATE, C/T, and the lower of the two mode bits of each timer
 abbrev pub GATE1 : ℕ
 GATE1 = 7
 
@@ -54,7 +54,7 @@ C/T0 = 2
 abbrev pub MODE0 : ℕ
 MODE0 = 0
 
--- SCON: the mode bits SM0 SM1, and the others
+-- SCON: the lower of the two mode bits SM0 SM1, and the others
 abbrev pub SM01 : ℕ
 SM01 = 6
 

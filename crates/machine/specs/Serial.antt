@@ -20,20 +20,21 @@ halfAfter smod half overflow1 = cond (eqb smod 1) half ((half + overflow1) % 2)
 unfoldable pub ticks1 : ℕ → ℕ → ℕ → ℕ
 ticks1 smod half overflow1 = cond (eqb smod 1) overflow1 (cond (eqb half 1) overflow1 0)
 
--- the ticks of a direction: modes 1 and 3 by Timer 2 if its clock bit is set, otherwise by Timer 1; mode 2: 3, or 6 if SMOD = 1
+-- the ticks of a direction: modes 1 and 3 by Timer 2 if its clock bit is set, otherwise by Timer 1; mode 2: 3, or 6 if SMOD = 1;
+-- mode 0 has none
 unfoldable pub ticksOf : ℕ → ℕ → ℕ → ℕ → ℕ → ℕ
-ticksOf mode smod clock one two =
-    cond (eqb mode 0) 0 (cond (eqb mode 2) (cond (eqb smod 1) 6 3) (cond (eqb clock 1) two one))
+ticksOf mode smod clock by1 by2 =
+    cond (eqb mode 0) 0 (cond (eqb mode 2) (cond (eqb smod 1) 6 3) (cond (eqb clock 1) by2 by1))
 
 -- step 4, from PCON, T2CON, and the overflows of Timer 1 and Timer 2
 unfoldable pub serialTicks : ℕ → ℕ → Serial → ℕ → ℕ → Ticks
 serialTicks pcon t2con s overflow1 overflows2 =
     let mode = serialMode (s .scon) in
     let smod = bit SMOD pcon in
-    let one = ticks1 smod (s .half) overflow1 in
+    let by1 = ticks1 smod (s .half) overflow1 in
     record {
-      send = ticksOf mode smod (bit TCLK t2con) one overflows2;
-      receive = ticksOf mode smod (bit RCLK t2con) one overflows2;
+      send = ticksOf mode smod (bit TCLK t2con) by1 overflows2;
+      receive = ticksOf mode smod (bit RCLK t2con) by1 overflows2;
       half = halfAfter smod (s .half) overflow1;
     }
 

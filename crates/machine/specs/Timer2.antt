@@ -4,7 +4,7 @@ use mathlib.Core.Bool.{Bool, cond, _&&_, _||_}
 use lib.Dec.{eqb}
 use Rattle.machine.specs.declared.Timer2.{Timer2}
 use Rattle.machine.specs.declared.Timer2Counted.{Timer2Counted}
-use Rattle.machine.specs.declared.Laps.{Laps}
+use Rattle.machine.specs.declared.Counted16.{Counted16}
 use Rattle.machine.specs.Bits.{bit, setBit}
 use Rattle.machine.specs.Counting.{nextOr, overflow, pair16}
 use Rattle.machine.specs.Timers.{clocked, flagged}
@@ -27,14 +27,14 @@ withCount2 n t = record { t2con = t .t2con; rcap2l = t .rcap2l; rcap2h = t .rcap
 abbrev pub withRcap2 : ℕ → Timer2 → Timer2
 withRcap2 n t = record { t2con = t .t2con; rcap2l = n % 256; rcap2h = n / 256; tl2 = t .tl2; th2 = t .th2; due2 = t .due2 }
 
--- one count that reloads on overflow
-unfoldable pub lap : ℕ → Laps → Laps
-lap reload s = record { count = nextOr 16 reload (s .count); overflows = s .overflows + overflow 16 (s .count) }
+-- one count, an overflow giving the reload value
+unfoldable pub countOnce : ℕ → Counted16 → Counted16
+countOnce reload s = record { count = nextOr 16 reload (s .count); overflows = s .overflows + overflow 16 (s .count) }
 
 -- n counts in turn
-unfoldable pub laps : ℕ → ℕ → Laps → Laps
-laps zero reload s = s
-laps (suc n) reload s = laps n reload (lap reload s)
+unfoldable pub countTimes : ℕ → ℕ → Counted16 → Counted16
+countTimes zero reload s = s
+countTimes (suc n) reload s = countTimes n reload (countOnce reload s)
 
 -- RCLK or TCLK set: Timer 2 is a baud rate generator
 unfoldable pub baudRate : Timer2 → Bool
@@ -53,8 +53,8 @@ unfoldable pub captures : Timer2 → Bool
 captures t = eqb (bit CP/RL2 (t .t2con)) 1
 
 -- the counts of this cycle, in turn, each overflow giving the reload value
-unfoldable pub counted2 : ℕ → ℕ → Timer2 → Laps
-counted2 each reload t = laps (countsOf2 each t) reload (record { count = count2 t; overflows = 0 })
+unfoldable pub counted2 : ℕ → ℕ → Timer2 → Counted16
+counted2 each reload t = countTimes (countsOf2 each t) reload (record { count = count2 t; overflows = 0 })
 
 -- with RCLK or TCLK set: six counts in turn as a timer, one on its due mark as a counter; each overflow reloads from
 -- RCAP2, TF2 stays; T2EX falling with EXEN2 = 1 sets EXF2 only

@@ -18,11 +18,11 @@ unfoldable pub clocked : ℕ → ℕ → Bool
 clocked counter due = eqb counter 0 || eqb due 1
 
 -- the modes of Timers 0 and 1
-abbrev pub mode0 : Timers → ℕ
-mode0 t = field MODE0 2 (t .tmod)
+abbrev pub timer0Mode : Timers → ℕ
+timer0Mode t = field MODE0 2 (t .tmod)
 
-abbrev pub mode1 : Timers → ℕ
-mode1 t = field MODE1 2 (t .tmod)
+abbrev pub timer1Mode : Timers → ℕ
+timer1Mode t = field MODE1 2 (t .tmod)
 
 -- one count in modes 0, 1 and 2; what mode 3 does differs
 unfoldable pub countIn : ℕ → Count → ℕ → ℕ → Count
@@ -41,17 +41,17 @@ counts0 t pins =
 -- Timer 1 counts in this cycle: with Timer 0 in mode 3 it is always enabled
 unfoldable pub counts1 : Timers → ℕ → Bool
 counts1 t pins =
-    (eqb (mode0 t) 3 || enabled (bit TR1 (t .tcon)) (bit GATE1 (t .tmod)) (bit INT1 pins))
+    (eqb (timer0Mode t) 3 || enabled (bit TR1 (t .tcon)) (bit GATE1 (t .tmod)) (bit INT1 pins))
     && clocked (bit C/T1 (t .tmod)) (t .due1)
 
 -- TH0 in mode 3 counts cycles while TR1 = 1
 unfoldable pub countsHigh0 : Timers → Bool
-countsHigh0 t = eqb (mode0 t) 3 && eqb (bit TR1 (t .tcon)) 1
+countsHigh0 t = eqb (timer0Mode t) 3 && eqb (bit TR1 (t .tcon)) 1
 
 -- Timer 0's pair after this cycle's count; in mode 3 TL0 is 8 bits under Timer 0's bits
 unfoldable pub pair0 : Timers → ℕ → Count
 pair0 t pins =
-    cond (counts0 t pins) (countIn (mode0 t) (count8 (t .tl0) (t .th0)) (t .tl0) (t .th0)) (hold (t .tl0) (t .th0))
+    cond (counts0 t pins) (countIn (timer0Mode t) (count8 (t .tl0) (t .th0)) (t .tl0) (t .th0)) (hold (t .tl0) (t .th0))
 
 -- TH0 in mode 3 is 8 bits with a count of its own
 unfoldable pub high0 : Timers → ℕ → ℕ
@@ -63,12 +63,12 @@ highOverflow0 t th = cond (countsHigh0 t) (overflow 8 th) 0
 -- Timer 1's pair after this cycle's count; in mode 3 it holds
 unfoldable pub pair1 : Timers → ℕ → Count
 pair1 t pins =
-    cond (counts1 t pins) (countIn (mode1 t) (hold (t .tl1) (t .th1)) (t .tl1) (t .th1)) (hold (t .tl1) (t .th1))
+    cond (counts1 t pins) (countIn (timer1Mode t) (hold (t .tl1) (t .th1)) (t .tl1) (t .th1)) (hold (t .tl1) (t .th1))
 
 -- an overflow of Timer 0 sets TF0, of TH0 in mode 3 TF1; with Timer 0 in mode 3 Timer 1 sets no flag
 unfoldable pub timerFlags : Timers → ℕ → ℕ → ℕ → ℕ
 timerFlags t low high one =
-    flagged TF1 (cond (eqb (mode0 t) 3) high one) (flagged TF0 low (t .tcon))
+    flagged TF1 (cond (eqb (timer0Mode t) 3) high one) (flagged TF0 low (t .tcon))
 
 -- step 2, with the three overflows; Timer 1's clocks the serial port
 unfoldable pub timersStep : Timers → ℕ → TimersCounted
@@ -88,7 +88,7 @@ timersStep t pins =
             due0 = t .due0;
             due1 = t .due1;
           };
-      tl0 = low .overflow;
-      th0 = high;
-      timer1 = one .overflow;
+      overflow0 = low .overflow;
+      «overflow_th0» = high;
+      overflow1 = one .overflow;
     }

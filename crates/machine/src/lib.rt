@@ -1,7 +1,13 @@
 // The types of the plain machine: the device record and its parts, what a step hands on, and the answers of the calls.
 // What the chip does is said in specs/, a file for each section of document 01.
+pub mod places;
 
-// Timers 0 and 1: registers and due marks.
+// The most cycles of a jump and of a look ahead, and the most entries of a trace.
+pub const LONGEST: u64 = 1 << 40;
+
+pub const MOST_ENTRIES: usize = 65536;
+
+// Timers 0 and 1: registers and due marks. A due mark, document 01's term, is 1 where the counter's pin fell in the last cycle.
 #[repr(C)]
 pub struct Timers {
     pub tcon: u8,
@@ -53,7 +59,8 @@ pub struct Serial {
     pub received: u8,
 }
 
-// The interrupt controller: registers, seen, polled, and the levels in service.
+// The interrupt controller: registers, the levels in service, and document 01's seen, the flags that the last cycle left, and
+// polled, those that the cycle before it left.
 #[repr(C)]
 pub struct Interrupts {
     pub ie: u8,
@@ -87,13 +94,13 @@ pub struct Count {
 // Step 2: Timers 0 and 1, and the overflows of Timer 0 (TL0 in mode 3), of TH0 in mode 3 and of Timer 1.
 pub struct TimersCounted {
     pub timers: Timers,
-    pub tl0: u8,
-    pub th0: u8,
-    pub timer1: u8,
+    pub overflow0: u8,
+    pub overflow_th0: u8,
+    pub overflow1: u8,
 }
 
-// A 16-bit count that reloads, and its overflows so far.
-pub struct Laps {
+// A 16-bit count and its overflows so far.
+pub struct Counted16 {
     pub count: u16,
     pub overflows: u8,
 }

@@ -1,12 +1,12 @@
 -- Laws of the room and of the stride: the tests of a settled device in the code's order, a bound on the room as one on each unit, and the counts and ticks of m cycles.
-use Prim.Native.Nat.{ℕ, _+_, _*_, _/_, _%_, _≤_, _<_, min}
+use Prim.Native.Nat.{ℕ, _+_, _*_, _/_, _%_, _^_, _≤_, _<_, min}
 use mathlib.Core.Path.{_≡_, refl, sym, ap, _∙_, subst}
 use mathlib.Core.Bool.{Bool, true, false, cond, _&&_}
 use native.Mathlib.Nat.{mod-add-mod, add-mul-mod-self-right}
 use native.Mathlib.Omega.{arith}
 use lib.Dec.{eqb}
 use lib.Bits.{bitAnd}
-use Rattle.laws.proofs.Bits.{and-low}
+use Rattle.laws.proofs.Bits.{and-one}
 use Rattle.machine.specs.declared.Timer2.{Timer2}
 use Rattle.machine.specs.declared.Serial.{Serial}
 use Rattle.machine.specs.declared.Device.{Device}
@@ -47,8 +47,8 @@ room-at l d =
 
 -- its serial port's test on RXD by a mask, with its outcome
 pub serial-is : (l : ℕ) (s : Serial) {r outcome : Bool}
-    → r ≡ serialSettled (bitAnd l 1) s → r ≡ outcome → serialSettled (bit RXD l) s ≡ outcome
-serial-is l s p q = ap (λ (rxd : ℕ). serialSettled rxd s) (sym (and-low l 1)) ∙ sym p ∙ q
+    → r ≡ serialSettled (bitAnd (l / 2 ^ RXD) 1) s → r ≡ outcome → serialSettled (bit RXD l) s ≡ outcome
+serial-is l s p q = ap (λ (rxd : ℕ). serialSettled rxd s) (sym (and-one l RXD)) ∙ sym p ∙ q
 
 -- a unit that counts has its own room
 pub counting : {b : Bool} {m k : ℕ} → b ≡ true → m ≤ roomOf b k → m ≤ k

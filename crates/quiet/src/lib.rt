@@ -2,47 +2,58 @@
 // `l` is the pin byte as the kind takes it.
 ghost use mathlib.Core.Path.{_≡_};
 ghost use mathlib.Core.Bool.{cond};
-ghost use Prim.Native.Nat.{_+_, _%_, _≤_, min};
+ghost use Prim.Native.Nat.{_+_, _%_, _≤_};
 ghost use Rattle.machine.specs.Record.{levelsOf};
 ghost use Rattle.machine.specs.Counting as Counting;
 ghost use Rattle.machine.specs.Timers as Step;
 ghost use Rattle.strides.specs.Busy.{same};
 ghost use Rattle.strides.specs.Stride as Stride;
+use laws::least;
+use laws::pair16;
 use machine::Count;
 use machine::Device;
 use machine::Interrupts;
+use machine::LONGEST;
 use machine::Serial;
 use machine::Timer2;
 use machine::Timers;
-
-// The most cycles of a jump: the room of a unit that does not count.
-const LONGEST: u64 = 1 << 40;
-
-// The smaller of two numbers of cycles.
-fn least(a: u64, b: u64) -> u64
-    ensures { λ r. ⌜ r ≡ min a b ⌝ }
-{
-    if a < b { a } else { b }
-}
+use machine::places::CT2;
+use machine::places::IE0;
+use machine::places::IE1;
+use machine::places::INT0;
+use machine::places::INT1;
+use machine::places::IT0;
+use machine::places::IT1;
+use machine::places::MODE0;
+use machine::places::MODE1;
+use machine::places::REN;
+use machine::places::RXD;
+use machine::places::SM01;
+use machine::places::SMOD;
+use machine::places::T0;
+use machine::places::T1;
+use machine::places::T2;
+use machine::places::T2EX;
+use machine::places::TR2;
 
 // The saved levels are those of the pins.
 fn same_levels(saved: [u8; 7], l: u8) -> bool
     ensures { λ r. ⌜ r ≡ same saved (levelsOf l) ⌝ }
 {
-    (saved[0] == (l & 1))
-        & ((saved[1] == ((l >> 1) & 1))
-            & ((saved[2] == ((l >> 2) & 1))
-                & ((saved[3] == ((l >> 3) & 1))
-                    & ((saved[4] == ((l >> 4) & 1))
-                        & ((saved[5] == ((l >> 5) & 1)) & (saved[6] == ((l >> 6) & 1)))))))
+    (saved[0] == ((l >> RXD) & 1))
+        & ((saved[1] == ((l >> INT0) & 1))
+            & ((saved[2] == ((l >> INT1) & 1))
+                & ((saved[3] == ((l >> T0) & 1))
+                    & ((saved[4] == ((l >> T1) & 1))
+                        & ((saved[5] == ((l >> T2) & 1)) & (saved[6] == ((l >> T2EX) & 1)))))))
 }
 
 // No due mark, and IEi of a level-triggered input is 1 - L.
 fn settled_timers(l: u8, t: Timers) -> bool
     ensures { λ r. ⌜ r ≡ Stride.timersSettled l t ⌝ }
 {
-    let level0 = ((t.tcon & 1) == 1) | (((t.tcon >> 1) & 1) == 1 - ((l >> 1) & 1));
-    let level1 = (((t.tcon >> 2) & 1) == 1) | (((t.tcon >> 3) & 1) == 1 - ((l >> 2) & 1));
+    let level0 = (((t.tcon >> IT0) & 1) == 1) | (((t.tcon >> IE0) & 1) == 1 - ((l >> INT0) & 1));
+    let level1 = (((t.tcon >> IT1) & 1) == 1) | (((t.tcon >> IE1) & 1) == 1 - ((l >> INT1) & 1));
     ((t.due0 == 0) & (t.due1 == 0)) & (level0 & level1)
 }
 
@@ -50,7 +61,7 @@ fn settled_timers(l: u8, t: Timers) -> bool
 fn start_waits(rxd: u8, s: Serial) -> bool
     ensures { λ r. ⌜ r ≡ Stride.startWaits rxd s ⌝ }
 {
-    ((((s.scon >> 6) & 3) == 2) & (((s.scon >> 4) & 1) == 1))
+    ((((s.scon >> SM01) & 3) == 2) & (((s.scon >> REN) & 1) == 1))
         & ((s.receive.sample == 1) & (rxd == 0))
 }
 
@@ -75,13 +86,6 @@ fn pair13(tl: u8, th: u8) -> u16
     ((th as u16) << 5) | ((tl & 0x1f) as u16)
 }
 
-// The 16 bits of mode 1 and of Timer 2.
-fn pair16(tl: u8, th: u8) -> u16
-    ensures { λ r. ⌜ r ≡ Counting.pair16 tl th ⌝ }
-{
-    ((th as u16) << 8) | (tl as u16)
-}
-
 // The counts of a timer's pair before the one that overflows, in its mode: of 13 bits, of 16 bits, or of TL's 8.
 fn left_in(mode: u8, tl: u8, th: u8) -> u16
     ensures { λ r. ⌜ r ≡ Stride.leftIn mode tl th ⌝ }
@@ -97,10 +101,10 @@ fn left_in(mode: u8, tl: u8, th: u8) -> u16
 fn moves1(t: Timers, l: u8) -> bool
     ensures { λ r. ⌜ r ≡ Stride.moves1 t l ⌝ }
 {
-    timers::counts1(t, l) & !(((t.tmod >> 4) & 3) == 3)
+    timers::counts1(t, l) & !(((t.tmod >> MODE1) & 3) == 3)
 }
 
-// The room of a timer's pair.
+// The room of a timer's pair: of one that does not count a jump's most cycles.
 fn room_of(counts: bool, mode: u8, tl: u8, th: u8) -> u64
     ensures { λ r. ⌜ r ≡ Stride.roomOf counts (Stride.leftIn mode tl th) ⌝ }
 {
@@ -126,8 +130,8 @@ fn room_high0(t: Timers) -> u64
 fn room_timers(l: u8, t: Timers) -> u64
     ensures { λ r. ⌜ r ≡ Stride.roomTimers l t ⌝ }
 {
-    let low = room_of(timers::counts0(t, l), t.tmod & 3, t.tl0, t.th0);
-    let one = room_of(moves1(t, l), (t.tmod >> 4) & 3, t.tl1, t.th1);
+    let low = room_of(timers::counts0(t, l), (t.tmod >> MODE0) & 3, t.tl0, t.th0);
+    let one = room_of(moves1(t, l), (t.tmod >> MODE1) & 3, t.tl1, t.th1);
     least(low, least(room_high0(t), one))
 }
 
@@ -135,7 +139,7 @@ fn room_timers(l: u8, t: Timers) -> u64
 fn moves2(t: Timer2) -> bool
     ensures { λ r. ⌜ r ≡ Stride.moves2 t ⌝ }
 {
-    (((t.t2con >> 2) & 1) == 1) & (((t.t2con >> 1) & 1) == 0)
+    (((t.t2con >> TR2) & 1) == 1) & (((t.t2con >> CT2) & 1) == 0)
 }
 
 // The cycles of Timer 2 before the one in which it overflows: it counts six times a cycle with RCLK or TCLK set.
@@ -158,7 +162,7 @@ pub fn room(d: Device, l: u8) -> u64
     ensures { λ r. ⌜ r ≡ Stride.roomAt l d ⌝ }
 {
     let s = d.serial;
-    if !settled_serial(l & 1, s) {
+    if !settled_serial((l >> RXD) & 1, s) {
         return 0;
     }
     let saved = d.levels;
@@ -258,8 +262,14 @@ fn stride_timers(m: u64, l: u8, t: Timers) -> Timers
     requires { ⌜ m ≤ Stride.roomTimers l t ⌝ }
     ensures { λ r. ⌜ r ≡ Stride.strideTimers m l t ⌝ }
 {
-    let low = moved(m, timers::counts0(t, l), t.tmod & 3, t.tl0, t.th0);
-    let one = moved(m, moves1(t, l), (t.tmod >> 4) & 3, t.tl1, t.th1);
+    let low = moved(
+        m,
+        timers::counts0(t, l),
+        (t.tmod >> MODE0) & 3,
+        t.tl0,
+        t.th0,
+    );
+    let one = moved(m, moves1(t, l), (t.tmod >> MODE1) & 3, t.tl1, t.th1);
     let mut u = t;
     u.tl0 = low.tl;
     u.tl1 = one.tl;
@@ -291,7 +301,7 @@ fn ticks2(m: u64, smod: u8, scon: u8) -> u8
 {
     let n = (m & 15) as u8;
     let ticks = laws::picked(smod == 1, n * 6, n * 3);
-    laws::picked(((scon >> 6) & 3) == 2, ticks, 0)
+    laws::picked(((scon >> SM01) & 3) == 2, ticks, 0)
 }
 
 // The serial port after m quiet cycles: the send counter takes the ticks, and the last line sample RXD.
@@ -299,7 +309,7 @@ fn stride_serial(m: u64, smod: u8, rxd: u8, s: Serial) -> Serial
     ensures { λ r. ⌜ r ≡ Stride.strideSerial m smod rxd s ⌝ }
 {
     let counter = ((s.send.counter & 15) + ticks2(m, smod, s.scon)) & 15;
-    let ticking = (((s.scon >> 6) & 3) == 2) & !(m == 0);
+    let ticking = (((s.scon >> SM01) & 3) == 2) & !(m == 0);
     let sample = laws::picked(ticking, rxd, s.receive.sample);
     let mut u = s;
     u.send.counter = counter;
@@ -318,7 +328,7 @@ pub fn stride(d: Device, l: u8, m: u64) -> Device
     let mut e = d;
     e.timers = stride_timers(m, l, t);
     e.timer2 = stride2(m, u);
-    e.serial = stride_serial(m, (d.pcon >> 7) & 1, l & 1, s);
+    e.serial = stride_serial(m, (d.pcon >> SMOD) & 1, (l >> RXD) & 1, s);
     e.cycle = std::num::wrapping_add_u64(d.cycle, m);
     e
 }

@@ -13,7 +13,7 @@ use Rattle.machine.specs.Serial.{writeScon, writeSbuf}
 use Rattle.machine.specs.Calls.{stored}
 use Rattle.laws.proofs.Bits.{and-twice}
 use Rattle.serial.specs.Ranges.{SerialOk}
-use Rattle.serial.proofs.Cases.{cond-has}
+use Rattle.laws.proofs.Choices.{cond-has}
 use Rattle.serial.proofs.Ranges.{write-scon-ok, write-sbuf-ok}
 use Rattle.registers.specs.Ranges.{Ranges, Absent}
 use Rattle.registers.proofs.Accepted.{ranges-of, accepted-of}

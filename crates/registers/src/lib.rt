@@ -10,6 +10,7 @@ use machine::Sender;
 use machine::Serial;
 use machine::Timer2;
 use machine::Timers;
+use machine::places::SM01;
 
 // The addresses.
 const PCON: u8 = 0x87;
@@ -85,10 +86,10 @@ fn mask(kind: u8, a: u8) -> u8
     ensures { λ r. ⌜ r ≡ Table.implemented kind a ⌝ }
 {
     let rows = IMPLEMENTED;
-    let old = rows[((a >> 3) & 15) as usize];
-    let new = rows[((a >> 3) | 16) as usize];
+    let on51 = rows[((a >> 3) & 15) as usize];
+    let on52 = rows[((a >> 3) | 16) as usize];
     let at = (a & 7) as usize;
-    laws::picked(a < 0x80, 0, laws::picked(kind == 51, old[at], new[at]))
+    laws::picked(a < 0x80, 0, laws::picked(kind == 51, on51[at], on52[at]))
 }
 
 // The implemented bits at an address that a caller gives. Each arm looks up a fixed address, so that no table is made when it runs.
@@ -150,7 +151,7 @@ fn registers_ok(d: Device) -> bool
 fn hidden_ok(d: Device) -> bool
     ensures { λ r. ⌜ r ≡ Record.hiddenOk (Record.hiddenFields d) ⌝ }
 {
-    let last = laws::picked(2 <= ((d.serial.scon >> 6) & 3), 11, 10);
+    let last = laws::picked(2 <= ((d.serial.scon >> SM01) & 3), 11, 10);
     let due_most = laws::picked(d.kind == 51, 0, 1);
     (d.serial.send.position <= last)
         & (d.serial.send.value <= 511)

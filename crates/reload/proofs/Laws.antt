@@ -1,6 +1,6 @@
 -- The reload law: where Timer 1 alone overflows in a settled device and raises no flag, the cycle is the reload; step by step.
 use Prim.Native.Nat.{ℕ, zero, suc, _+_, _-_, _/_, _%_, _^_, _≤_, _<_, min}
-use mathlib.Core.Path.{_≡_, refl, sym, ap, _∙_}
+use mathlib.Core.Path.{_≡_, refl, sym, ap, _∙_, subst}
 use mathlib.Core.Bool.{Bool, true, false, cond, _&&_, _||_, not, and-comm}
 use mathlib.Core.List.{List, [], _∷_}
 use native.Mathlib.Nat.{zero-add, suc-add, add-zero, add-sub-of-le, mod-lt, mod-add-mod, mod-eq-of-lt}
@@ -17,24 +17,27 @@ use Rattle.machine.specs.Bits.{bit}
 use Rattle.machine.specs.Registers.{RXD, T0, T1, T2, T2EX, SMOD, REN, TF1, TR2, RCLK, TCLK}
 use Rattle.machine.specs.Record.{serialMode, pinsOf, levelsOf}
 use Rattle.machine.specs.Counting.{reload8, hold}
-use Rattle.machine.specs.Timers.{mode0, mode1, countIn, flagged, counts0, counts1, countsHigh0, pair0, high0, highOverflow0, pair1, timerFlags, timersStep}
+use Rattle.machine.specs.Timers.{timer0Mode, timer1Mode, countIn, flagged, counts0, counts1, countsHigh0, pair0, high0, highOverflow0, pair1, timerFlags, timersStep}
 use Rattle.machine.specs.Timer2.{timer2Step}
 use Rattle.machine.specs.Serial.{halfAfter, ticks1, ticksOf, serialTicks, withSample, counterNext, serialStep}
 use Rattle.machine.specs.Interrupts.{seenOf}
 use Rattle.machine.specs.Cycle.{falls, polling, externals, timersAfter, timer2After, ticksIn, steps, cycleOf, cycles}
 use Rattle.laws.proofs.Bits.{set-same}
 use Rattle.serial.specs.Rest.{startWaits}
-use Rattle.serial.proofs.Cases.{by-test}
+use Rattle.laws.proofs.Choices.{by-test}
 use Rattle.serial.proofs.Quiet.{rest-shift, rest-ticks}
 use Rattle.machine.specs.declared.LookAnswer.the-variants.{Nothing}
 use Rattle.machine.specs.Calls.{longest, flags, anyRises, rises, firstRise}
-use Rattle.strides.specs.Stride.{timersSettled, settledAt, left, leftIn, moves1, roomTimers, moves2, room2, roomAt, ticks2, strideSerial}
+use Rattle.strides.specs.Stride.{timersSettled, settledAt, left, leftIn, moves1, roomTimers, moves2, room2, roomAt, room, ticks2, strideSerial}
 use Rattle.strides.specs.Stride as Stride
 use Rattle.strides.proofs.Timers.{no-flags}
 use Rattle.strides.proofs.Serial.{quiet-serial}
-use Rattle.strides.proofs.Bools.{clash, and-left, and-two, and-four, or-left, or-right, or-neither, never-both}
-use Rattle.strides.proofs.Settles.{Rest, settled-rest, no-fall, externals-rest}
-use Rattle.reload.specs.Reload.{timer1Alone, lineRests, reloadOnly, idlesAt, clocks, clockingOf, idlingOf, ticks, reloaded, putIdling, reloadAt, raised, idleCycle, idleCycles, idleAt, Rounded}
+use Rattle.laws.proofs.Choices.{clash, and-left, and-two, and-four, or-left, or-right, or-neither}
+use Rattle.strides.proofs.Bools.{never-both}
+use Rattle.strides.proofs.Settles.{Rest, settled-rest, rest-settled}
+use Rattle.strides.proofs.Steps.{Kept, steps-rest}
+use Rattle.strides.proofs.Rises.{none-rises}
+use Rattle.reload.specs.Reload.{timer1Alone, lineRests, reloadOnly, idlesAt, clocks, clockingOf, idlingOf, ticks, reloaded, putIdling, reloadAt, raised, idleCycle, idleCycles, idleAt, usedIdling, Rounded}
 use Rattle.reload.specs.declared.Clocking.{Clocking}
 use Rattle.reload.specs.declared.IdleRound.{IdleRound}
 use Rattle.reload.specs.declared.Idling.{Idling}
@@ -42,23 +45,23 @@ use Rattle.reload.specs.declared.Idling.{Idling}
 -- the facts of Timer 1 counting alone
 pub record Alone (l : ℕ) (t : Timers) : Type 0 where
   pub counts : counts1 t l ≡ true
-  pub reloads : mode1 t ≡ 2
-  pub flag : (eqb (bit TF1 (t .tcon)) 1 || eqb (mode0 t) 3) ≡ true
+  pub reloads : timer1Mode t ≡ 2
+  pub flag : (eqb (bit TF1 (t .tcon)) 1 || eqb (timer0Mode t) 3) ≡ true
   pub low : counts0 t l ≡ false
   pub high : countsHigh0 t ≡ false
 
 pub alone-facts : (l : ℕ) (t : Timers) → timer1Alone l t ≡ true → Alone l t
 unfolding timer1Alone
 alone-facts l t e =
-    let flag = eqb (bit TF1 (t .tcon)) 1 || eqb (mode0 t) 3 in
+    let flag = eqb (bit TF1 (t .tcon)) 1 || eqb (timer0Mode t) 3 in
     let others = counts0 t l || countsHigh0 t in
-    let whole = and-two ((counts1 t l && eqb (mode1 t) 2) && flag) (not others) e in
-    let one = and-two (counts1 t l && eqb (mode1 t) 2) flag (whole .0) in
-    let two = and-two (counts1 t l) (eqb (mode1 t) 2) (one .0) in
+    let whole = and-two ((counts1 t l && eqb (timer1Mode t) 2) && flag) (not others) e in
+    let one = and-two (counts1 t l && eqb (timer1Mode t) 2) flag (whole .0) in
+    let two = and-two (counts1 t l) (eqb (timer1Mode t) 2) (one .0) in
     let none = not-true others (whole .1) in
     record {
       counts = two .0;
-      reloads = eqb-true (mode1 t) 2 (two .1);
+      reloads = eqb-true (timer1Mode t) 2 (two .1);
       flag = one .1;
       low = or-left (counts0 t l) (countsHigh0 t) none;
       high = or-right (counts0 t l) (countsHigh0 t) none;
@@ -148,9 +151,9 @@ room-fresh l d e =
 -- A cycle
 
 -- TF1 is set already, or Timer 0 in mode 3 has it
-no-flag : (t : Timers) → (eqb (bit TF1 (t .tcon)) 1 || eqb (mode0 t) 3) ≡ true → timerFlags t 0 0 1 ≡ t .tcon
+no-flag : (t : Timers) → (eqb (bit TF1 (t .tcon)) 1 || eqb (timer0Mode t) 3) ≡ true → timerFlags t 0 0 1 ≡ t .tcon
 unfolding timerFlags flagged
-no-flag t = go (eqb (bit TF1 (t .tcon)) 1) (eqb (mode0 t) 3) refl
+no-flag t = go (eqb (bit TF1 (t .tcon)) 1) (eqb (timer0Mode t) 3) refl
   where
     go : (set three : Bool) → eqb (bit TF1 (t .tcon)) 1 ≡ set → (set || three) ≡ true
         → flagged TF1 (cond three 0 1) (t .tcon) ≡ t .tcon
@@ -158,16 +161,16 @@ no-flag t = go (eqb (bit TF1 (t .tcon)) 1) (eqb (mode0 t) 3) refl
     go true false p e = set-same TF1 (t .tcon) (eqb-true (bit TF1 (t .tcon)) 1 p)
     go false false p e = absurd (clash e refl)
 
--- Timers 0 and 1 with another TL1
-abbrev withTl1 : ℕ → Timers → Timers
-withTl1 n t =
+-- Timers 0 and 1 with another TL1 and TH1
+abbrev withPair1 : ℕ → ℕ → Timers → Timers
+withPair1 tl th t =
     record {
       tcon = t .tcon;
       tmod = t .tmod;
       tl0 = t .tl0;
-      tl1 = n;
+      tl1 = tl;
       th0 = t .th0;
-      th1 = t .th1;
+      th1 = th;
       due0 = t .due0;
       due1 = t .due1;
     }
@@ -175,17 +178,17 @@ withTl1 n t =
 -- step 2, from Timer 1's count
 alone-step : (l : ℕ) (t : Timers) → Alone l t → (n o : ℕ)
     → reload8 (t .tl1) (t .th1) ≡ record { tl = n; th = t .th1; overflow = o } → timerFlags t 0 0 o ≡ t .tcon
-    → timersStep t l ≡ record { timers = withTl1 n t; tl0 = 0; th0 = 0; timer1 = o }
+    → timersStep t l ≡ record { timers = withPair1 n (t .th1) t; overflow0 = 0; «overflow_th0» = 0; overflow1 = o }
 unfolding timersStep pair0 pair1 countIn high0 highOverflow0 hold
 alone-step l t f n o e q = simp (f .low, f .high, f .counts, f .reloads, e, q)
 
 step-over : (l : ℕ) (t : Timers) → Alone l t → t .tl1 ≡ 255
-    → timersStep t l ≡ record { timers = withTl1 (t .th1) t; tl0 = 0; th0 = 0; timer1 = 1 }
+    → timersStep t l ≡ record { timers = withPair1 (t .th1) (t .th1) t; overflow0 = 0; «overflow_th0» = 0; overflow1 = 1 }
 unfolding reload8
 step-over l t f e = alone-step l t f (t .th1) 1 (simp e) (no-flag t (f .flag))
 
 step-up : (l : ℕ) (t : Timers) → Alone l t → t .tl1 < 255
-    → timersStep t l ≡ record { timers = withTl1 (t .tl1 + 1) t; tl0 = 0; th0 = 0; timer1 = 0 }
+    → timersStep t l ≡ record { timers = withPair1 (t .tl1 + 1) (t .th1) t; overflow0 = 0; «overflow_th0» = 0; overflow1 = 0 }
 unfolding reload8
 step-up l t f h =
     let o : (t .tl1 + 1) / 256 ≡ 0 = omega arith in
@@ -294,87 +297,20 @@ port-still l d h g f =
 
 -- steps 1 to 8
 
--- the device after a cycle, from its parts after it
-after : ℕ → Device → Timers → Timer2 → Serial → Device
-after l d t u s =
-    record {
-      kind = d .kind;
-      pcon = d .pcon;
-      timers = t;
-      timer2 = u;
-      serial = s;
-      interrupts = polling (seenOf (t .tcon) (s .scon) (u .t2con)) (d .interrupts);
-      levels = levelsOf l;
-      cycle = (d .cycle + 1) % 2 ^ 64;
-    }
-
 module _ (l : ℕ) (d : Device) (f : Idle l d) (x : Idling) (o : ℕ)
-    (step2 : timersStep (d .timers) l ≡ record { timers = withTl1 (x .tl1) (d .timers); tl0 = 0; th0 = 0; timer1 = o })
+    (step2 : timersStep (d .timers) l ≡ record { timers = withPair1 (x .tl1) (x .th1) (d .timers); overflow0 = 0; «overflow_th0» = 0; overflow1 = o })
     (step5 : serialStep (serialTicks (d .pcon) (d .timer2 .t2con) (d .serial) o 0) (bit RXD l) (d .serial) ≡ portAt x (d .serial)) where
-  r : Rest l d
-  r = f .rest
-
-  -- no pin falls
-  fallen : (k : ℕ) → falls (levelsOf l) l k ≡ 0 → falls (d .levels) l k ≡ 0
-  fallen k e = ap (λ (saved : List ℕ). falls saved l k) (r .levels) ∙ e
-
   step3 : timer2Step (d .timer2) (falls (d .levels) l T2EX) ≡ record { timer2 = d .timer2; overflows = 0; tf2 = 0 }
   step3 = still (d .timer2) (falls (d .levels) l T2EX) (f .stops)
 
-  timers : timersAfter (d .levels) l (timersStep (d .timers) l .timers) ≡ withTl1 (x .tl1) (d .timers)
-  unfolding timersAfter levelsOf
-  timers = ap (λ (c : TimersCounted). timersAfter (d .levels) l (c .timers)) step2 ∙ (λ i. record {
-    tcon = (ap (λ (saved : List ℕ). externals saved l (d .timers .tcon)) (r .levels)
-        ∙ externals-rest l (d .timers .tcon) (r .level0) (r .level1)) i;
-    tmod = d .timers .tmod;
-    tl0 = d .timers .tl0;
-    tl1 = x .tl1;
-    th0 = d .timers .th0;
-    th1 = d .timers .th1;
-    due0 = (fallen T0 (no-fall l T0 refl) ∙ sym (r .due0)) i;
-    due1 = (fallen T1 (no-fall l T1 refl) ∙ sym (r .due1)) i;
-  })
-
-  timer2 : timer2After (d .levels) l (timer2Step (d .timer2) (falls (d .levels) l T2EX) .timer2) ≡ d .timer2
-  unfolding timer2After levelsOf
-  timer2 = ap (λ (c : Timer2Counted). timer2After (d .levels) l (c .timer2)) step3 ∙ (λ i. record {
-    t2con = d .timer2 .t2con;
-    rcap2l = d .timer2 .rcap2l;
-    rcap2h = d .timer2 .rcap2h;
-    tl2 = d .timer2 .tl2;
-    th2 = d .timer2 .th2;
-    due2 = (fallen T2 (no-fall l T2 refl) ∙ sym (r .due2)) i;
-  })
-
-  serial : serialStep (ticksIn d (timersStep (d .timers) l) (timer2Step (d .timer2) (falls (d .levels) l T2EX))) (bit RXD l) (d .serial)
-      ≡ portAt x (d .serial)
-  unfolding ticksIn
-  serial =
-      (λ i. serialStep (serialTicks (d .pcon) (d .timer2 .t2con) (d .serial) (step2 i .timer1) (step3 i .overflows)) (bit RXD l) (d .serial))
-      ∙ step5
-
   idle-steps : steps d l ≡ putIdling ((d .cycle + 1) % 2 ^ 64) x d
-  unfolding steps putIdling after timer2After
-  idle-steps = (λ i. after l d (timers i) (timer2 i) (serial i)) ∙ (λ i. record {
-    kind = d .kind;
-    pcon = d .pcon;
-    timers = withTl1 (x .tl1) (d .timers);
-    timer2 = d .timer2;
-    serial = portAt x (d .serial);
-    interrupts = record {
-      ie = d .interrupts .ie;
-      ip = d .interrupts .ip;
-      seen = sym (r .seen) i;
-      polled = (r .seen ∙ sym (r .polled)) i;
-      low = d .interrupts .low;
-      high = d .interrupts .high;
-    };
-    levels = sym (r .levels) i;
-    cycle = (d .cycle + 1) % 2 ^ 64;
-  })
+  unfolding putIdling ticksIn
+  idle-steps =
+      steps-rest l d (f .rest) _ _ _ step2 step3 step5
+      (record { tcon = refl; due0 = refl; due1 = refl; t2con = refl; due2 = refl; scon = refl })
 
 steps-over : (l : ℕ) (d : Device) → d .serial .send .counter < 16 → Idle l d → d .timers .tl1 ≡ 255 → steps d l ≡ reloadAt l d
-unfolding reloadAt reloaded clockingOf
+unfolding reloadAt reloaded clockingOf idlingOf
 steps-over l d h f e =
     idle-steps l d f (reloaded (clockingOf l d) (idlingOf d)) 1 (step-over l (d .timers) (f .alone) e) (port-over l d h f)
 
@@ -410,6 +346,7 @@ steps-idle l d b f = by-test (eqb (d .timers .tl1) 255) over up
 -- a cycle keeps the bounds
 record Fits (x : Idling) : Type 0 where
   tl1 : x .tl1 < 256
+  th1 : x .th1 < 256
   counter : x .counter < 16
   half : x .half < 2
 
@@ -425,18 +362,19 @@ counter-below : (tick : Bool) (counter : ℕ) → counter < 16 → cond tick (co
 counter-below true counter h = omega arith
 counter-below false counter h = h
 
-cycle-fits : (k : Clocking) (x : Idling) → k .th1 < 256 → Fits x → Fits (idleCycle k x)
+cycle-fits : (k : Clocking) (x : Idling) → Fits x → Fits (idleCycle k x)
 unfolding idleCycle reloaded raised
-cycle-fits k x h f = go (eqb (x .tl1) 255) refl
+cycle-fits k x f = go (eqb (x .tl1) 255) refl
   where
     go : (b : Bool) → eqb (x .tl1) 255 ≡ b → Fits (cond b (reloaded k x) (raised 1 x))
     go true z =
         record {
-          tl1 = h;
+          tl1 = f .th1;
+          th1 = f .th1;
           counter = counter-below (k .sends && ticks (k .smod) (x .half)) (x .counter) (f .counter);
           half = half-below (k .smod) (x .half) (f .half);
         }
-    go false z = let up = below (x .tl1) (f .tl1) z in record { tl1 = omega arith; counter = f .counter; half = f .half }
+    go false z = let up = below (x .tl1) (f .tl1) z in record { tl1 = omega arith; th1 = f .th1; counter = f .counter; half = f .half }
 
 -- no start bit comes to wait
 cycle-waits : (ren : Bool) (k : Clocking) (x : Idling) → (ren && (eqb (x .sample) 1 && eqb (k .rxd) 0)) ≡ false
@@ -505,8 +443,8 @@ module _ (pins : ℕ) (d : Device) (b : Ranged d) (f : Idle (pinsOf (d .kind) pi
   next-ranged : Ranged next
   unfolding next k putIdling clockingOf idlingOf
   next-ranged =
-      let x = cycle-fits k (idlingOf d) (b .th1) (record { tl1 = b .tl1; counter = b .counter; half = b .half }) in
-      record { tl1 = x .tl1; th1 = b .th1; counter = x .counter; half = x .half; cycle = mod-lt (d .cycle + 1) (omega arith) }
+      let x = cycle-fits k (idlingOf d) (record { tl1 = b .tl1; th1 = b .th1; counter = b .counter; half = b .half }) in
+      record { tl1 = x .tl1; th1 = x .th1; counter = x .counter; half = x .half; cycle = mod-lt (d .cycle + 1) (omega arith) }
 
   next-idle : Idle (pinsOf (next .kind) pins) next
   unfolding next k l clockingOf idlingOf putIdling
@@ -535,13 +473,28 @@ pub idle-law : (n pins : ℕ) (d : Device) → Ranged d → idlesAt (pinsOf (d .
     → cycles n pins d ≡ idleAt n (pinsOf (d .kind) pins) d
 idle-law n pins d b e = idle-cycles n pins d b (idles-idle (pinsOf (d .kind) pins) d e)
 
--- no flag rises in them
-none-rises : (xs : List ℕ) → anyRises xs xs ≡ false
-unfolding anyRises
-none-rises [] = refl
-none-rises (x ∷ xs) =
-    or-neither (eqb x 0 && eqb x 1) (anyRises xs xs) (and-comm (eqb x 0) (eqb x 1) ∙ never-both x) (none-rises xs)
+-- the device goes on idling, and its room is the counts of TL1 before the reload
+idle-stays : (n pins : ℕ) (d : Device) → Ranged d → Idle (pinsOf (d .kind) pins) d
+    → Idle (pinsOf (cycles n pins d .kind) pins) (cycles n pins d)
+unfolding cycles
+idle-stays zero pins d b f = f
+idle-stays (suc n) pins d b f =
+    subst (λ (e : Device). Idle (pinsOf (cycles n pins e .kind) pins) (cycles n pins e)) (sym (cycle-next pins d b f))
+    (idle-stays n pins (next pins d b f) (next-ranged pins d b f) (next-idle pins d b f))
 
+pub idle-room : (n pins : ℕ) (d : Device) → Ranged d → idlesAt (pinsOf (d .kind) pins) d ≡ true
+    → room pins (cycles n pins d) ≡ left 8 (idleCycles n (clockingOf (pinsOf (d .kind) pins) d) (idlingOf d) .tl1)
+unfolding room idleAt putIdling
+idle-room n pins d b e =
+    let f = idles-idle (pinsOf (d .kind) pins) d e in
+    let g = idle-stays n pins d b f in
+    let there = cycles n pins d in
+    let l = pinsOf (there .kind) pins in
+    room-idle l there (g .alone) (g .stops)
+    ∙ (ap (λ (t : Bool). cond t (left 8 (there .timers .tl1)) 0) (rest-settled l there (g .rest))
+    ∙ ap (λ (u : Device). left 8 (u .timers .tl1)) (idle-law n pins d b e))
+
+-- no flag rises in them
 pub idle-rises : (j n pins : ℕ) (d : Device) → Ranged d → Idle (pinsOf (d .kind) pins) d → firstRise j n pins d ≡ Nothing
 unfolding firstRise flags next putIdling
 idle-rises j zero pins d b f = refl
@@ -557,12 +510,12 @@ idle-rises j (suc n) pins d b f =
 -- m counts before the reload
 idle-raised : (m : ℕ) (k : Clocking) (x : Idling) → x .tl1 + m ≤ 255 → idleCycles m k x ≡ raised m x
 unfolding idleCycles idleCycle raised
-idle-raised zero k x h = λ i. record { tl1 = sym (add-zero (x .tl1)) i; half = x .half; counter = x .counter; sample = x .sample }
+idle-raised zero k x h = λ i. record { tl1 = sym (add-zero (x .tl1)) i; th1 = x .th1; half = x .half; counter = x .counter; sample = x .sample }
 idle-raised (suc m) k x h =
     let up : x .tl1 + 1 + m ≡ x .tl1 + suc m = omega arith in
     ap (idleCycles m k) (rw (ne-eqb (x .tl1) 255 (λ e. omega arith)))
     ∙ (idle-raised m k (raised 1 x) (omega arith)
-    ∙ (λ i. record { tl1 = up i; half = x .half; counter = x .counter; sample = x .sample }))
+    ∙ (λ i. record { tl1 = up i; th1 = x .th1; half = x .half; counter = x .counter; sample = x .sample }))
 
 idle-add : (m n : ℕ) (k : Clocking) (x : Idling) → idleCycles (m + n) k x ≡ idleCycles n k (idleCycles m k x)
 unfolding idleCycles
@@ -572,11 +525,12 @@ idle-add (suc m) n k x = rw suc-add (idle-add m n k (idleCycle k x))
 -- the round of the reload, and of the counts before it
 pub round-over : (k : Clocking) (x : Idling) (left : ℕ) {y : Idling} → x .tl1 ≡ 255 → 1 ≤ left → y ≡ reloaded k x
     → Rounded k x left (record { used = 1; idling = y })
-unfolding idleCycles idleCycle
+unfolding idleCycles idleCycle usedIdling
 round-over k x left e h p = record { used = simp e; moves = omega arith; most = h; reaches = p ∙ simp e }
 
 pub round-up : (k : Clocking) (x : Idling) (left : ℕ) {m : ℕ} {y : Idling} → eqb (x .tl1) 255 ≡ false → x .tl1 < 255 → 1 ≤ left
     → m ≡ min (255 - x .tl1) left → y ≡ raised m x → Rounded k x left (record { used = m; idling = y })
+unfolding usedIdling
 round-up k x left {m} z g h e p =
     record {
       used = rw z e;

@@ -10,7 +10,7 @@ use Rattle.machine.specs.declared.Device.{Device}
 use Rattle.machine.specs.Bits.{bit}
 use Rattle.machine.specs.Registers.{RXD, SMOD, TF1, TR2, RCLK, TCLK}
 use Rattle.machine.specs.Record.{serialMode}
-use Rattle.machine.specs.Timers.{mode0, mode1, counts0, counts1, countsHigh0}
+use Rattle.machine.specs.Timers.{timer0Mode, timer1Mode, counts0, counts1, countsHigh0}
 use Rattle.machine.specs.Serial.{halfAfter, counterNext, withSample}
 use Rattle.serial.specs.Rest.{startWaits}
 use Rattle.strides.specs.Stride.{settledAt}
@@ -23,7 +23,7 @@ use Rattle.reload.specs.declared.IdleRound.{IdleRound}
 -- Timer 1 alone counts, in mode 2; its overflow raises no flag where TF1 is set, or belongs to Timer 0 in mode 3
 unfoldable pub timer1Alone : ℕ → Timers → Bool
 timer1Alone l t =
-    ((counts1 t l && eqb (mode1 t) 2) && (eqb (bit TF1 (t .tcon)) 1 || eqb (mode0 t) 3))
+    ((counts1 t l && eqb (timer1Mode t) 2) && (eqb (bit TF1 (t .tcon)) 1 || eqb (timer0Mode t) 3))
     && not (counts0 t l || countsHigh0 t)
 
 -- no ticks but those of overflows, and none of them finds a start bit
@@ -45,11 +45,10 @@ idlesAt l d = reloadOnly l d && settledAt l d
 unfoldable pub clocks : ℕ → ℕ → Bool
 clocks scon clock = not (eqb (serialMode scon) 0) && not (eqb clock 1)
 
--- what a reload goes by, and what it changes
+-- what a reload goes by, and what it works on
 unfoldable pub clockingOf : ℕ → Device → Clocking
 clockingOf l d =
     record {
-      th1 = d .timers .th1;
       smod = bit SMOD (d .pcon);
       rxd = bit RXD l;
       sends = clocks (d .serial .scon) (bit TCLK (d .timer2 .t2con));
@@ -60,6 +59,7 @@ unfoldable pub idlingOf : Device → Idling
 idlingOf d =
     record {
       tl1 = d .timers .tl1;
+      th1 = d .timers .th1;
       half = d .serial .half;
       counter = d .serial .send .counter;
       sample = d .serial .receive .sample;
@@ -74,7 +74,8 @@ unfoldable pub reloaded : Clocking → Idling → Idling
 reloaded k x =
     let tick = ticks (k .smod) (x .half) in
     record {
-      tl1 = k .th1;
+      tl1 = x .th1;
+      th1 = x .th1;
       half = halfAfter (k .smod) (x .half) 1;
       counter = cond (k .sends && tick) (counterNext (x .counter)) (x .counter);
       sample = cond (k .receives && tick) (k .rxd) (x .sample);
@@ -95,7 +96,7 @@ putIdling n x d =
             tl0 = t .tl0;
             tl1 = x .tl1;
             th0 = t .th0;
-            th1 = t .th1;
+            th1 = x .th1;
             due0 = t .due0;
             due1 = t .due1;
           };
@@ -121,7 +122,7 @@ reloadAt l d = putIdling ((d .cycle + 1) % 2 ^ 64) (reloaded (clockingOf l d) (i
 
 -- m counts of TL1
 unfoldable pub raised : ℕ → Idling → Idling
-raised m x = record { tl1 = x .tl1 + m; half = x .half; counter = x .counter; sample = x .sample }
+raised m x = record { tl1 = x .tl1 + m; th1 = x .th1; half = x .half; counter = x .counter; sample = x .sample }
 
 -- a cycle is a reload or a count, and n cycles in turn
 unfoldable pub idleCycle : Clocking → Idling → Idling
@@ -135,9 +136,13 @@ idleCycles (suc n) k x = idleCycles n k (idleCycle k x)
 unfoldable pub idleAt : ℕ → ℕ → Device → Device
 idleAt n l d = putIdling ((d .cycle + n) % 2 ^ 64) (idleCycles n (clockingOf l d) (idlingOf d)) d
 
--- a round has just these cycles, the reload or the counts before it, and ends where they end
+-- the cycles of a round: the reload, or the counts before it
+unfoldable pub usedIdling : ℕ → Idling → ℕ
+usedIdling left x = cond (eqb (x .tl1) 255) 1 (min (255 - x .tl1) left)
+
+-- a round has just these cycles, and ends where they end
 pub record Rounded (k : Clocking) (x : Idling) (left : ℕ) (r : IdleRound) : Type 0 where
-  pub used : r .used ≡ cond (eqb (x .tl1) 255) 1 (min (255 - x .tl1) left)
+  pub used : r .used ≡ usedIdling left x
   pub moves : 1 ≤ r .used
   pub most : r .used ≤ left
   pub reaches : r .idling ≡ idleCycles (r .used) k x

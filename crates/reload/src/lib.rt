@@ -3,17 +3,28 @@
 ghost use mathlib.Core.Path.{_≡_};
 ghost use Prim.Native.Nat.{_≤_, min};
 ghost use Rattle.reload.specs.Reload as Reload;
+use laws::least;
 use laws::picked;
 use machine::Device;
 use machine::Serial;
 use machine::Timers;
+use machine::places::MODE0;
+use machine::places::MODE1;
+use machine::places::RCLK;
+use machine::places::REN;
+use machine::places::RXD;
+use machine::places::SM01;
+use machine::places::SMOD;
+use machine::places::TCLK;
+use machine::places::TF1;
+use machine::places::TR2;
 
 // Timer 1 alone counts, in mode 2, and its overflow raises no flag.
 fn timer1_alone(l: u8, t: Timers) -> bool
     ensures { λ r. ⌜ r ≡ Reload.timer1Alone l t ⌝ }
 {
-    let one = timers::counts1(t, l) & (((t.tmod >> 4) & 3) == 2);
-    let set = (((t.tcon >> 7) & 1) == 1) | ((t.tmod & 3) == 3);
+    let one = timers::counts1(t, l) & (((t.tmod >> MODE1) & 3) == 2);
+    let set = (((t.tcon >> TF1) & 1) == 1) | (((t.tmod >> MODE0) & 3) == 3);
     (one & set) & !(timers::counts0(t, l) | timers::counts_high0(t))
 }
 
@@ -21,8 +32,8 @@ fn timer1_alone(l: u8, t: Timers) -> bool
 fn line_rests(rxd: u8, s: Serial) -> bool
     ensures { λ r. ⌜ r ≡ Reload.lineRests rxd s ⌝ }
 {
-    let waits = (((s.scon >> 4) & 1) == 1) & ((s.receive.sample == 1) & (rxd == 0));
-    !(((s.scon >> 6) & 3) == 2) & !waits
+    let waits = (((s.scon >> REN) & 1) == 1) & ((s.receive.sample == 1) & (rxd == 0));
+    !(((s.scon >> SM01) & 3) == 2) & !waits
 }
 
 // Timer 1's reload is all that happens, Timer 2 not running.
@@ -31,8 +42,8 @@ fn reload_only(d: Device, l: u8) -> bool
 {
     let t = d.timers;
     let s = d.serial;
-    let stops = ((d.timer2.t2con >> 2) & 1) == 0;
-    (timer1_alone(l, t) & stops) & line_rests(l & 1, s)
+    let stops = ((d.timer2.t2con >> TR2) & 1) == 0;
+    (timer1_alone(l, t) & stops) & line_rests((l >> RXD) & 1, s)
 }
 
 // The device is settled, and Timer 1's reload is all that happens.
@@ -48,18 +59,18 @@ pub fn idles(d: Device, l: u8) -> bool
     !(quiet::room(e, l) == 0)
 }
 
-// What a reload goes by: TH1, SMOD, RXD, and whether Timer 1 clocks the sender and the receiver.
+// What a reload goes by: SMOD, RXD, and whether Timer 1 clocks the sender and the receiver.
 pub struct Clocking {
-    pub th1: u8,
     pub smod: u8,
     pub rxd: u8,
     pub sends: bool,
     pub receives: bool,
 }
 
-// What it changes: TL1, half, the send counter and the last line sample.
+// What it works on: TL1 and TH1, half, the send counter and the last line sample.
 pub struct Idling {
     pub tl1: u8,
+    pub th1: u8,
     pub half: u8,
     pub counter: u8,
     pub sample: u8,
@@ -69,7 +80,7 @@ pub struct Idling {
 fn clocks(scon: u8, clock: u8) -> bool
     ensures { λ r. ⌜ r ≡ Reload.clocks scon clock ⌝ }
 {
-    !(((scon >> 6) & 3) == 0) & !(clock == 1)
+    !(((scon >> SM01) & 3) == 0) & !(clock == 1)
 }
 
 fn clocking_of(d: Device, l: u8) -> Clocking
@@ -77,12 +88,11 @@ fn clocking_of(d: Device, l: u8) -> Clocking
 {
     let t2con = d.timer2.t2con;
     let scon = d.serial.scon;
-    let sends = clocks(scon, (t2con >> 4) & 1);
-    let receives = clocks(scon, (t2con >> 5) & 1);
+    let sends = clocks(scon, (t2con >> TCLK) & 1);
+    let receives = clocks(scon, (t2con >> RCLK) & 1);
     Clocking {
-        th1: d.timers.th1,
-        smod: (d.pcon >> 7) & 1,
-        rxd: l & 1,
+        smod: (d.pcon >> SMOD) & 1,
+        rxd: (l >> RXD) & 1,
         sends: sends,
         receives: receives,
     }
@@ -93,6 +103,7 @@ fn idling_of(d: Device) -> Idling
 {
     Idling {
         tl1: d.timers.tl1,
+        th1: d.timers.th1,
         half: d.serial.half,
         counter: d.serial.send.counter,
         sample: d.serial.receive.sample,
@@ -110,7 +121,8 @@ fn reloaded(k: Clocking, x: Idling) -> Idling
     let counter = picked(k.sends & tick, next, x.counter);
     let sample = picked(k.receives & tick, k.rxd, x.sample);
     Idling {
-        tl1: k.th1,
+        tl1: x.th1,
+        th1: x.th1,
         half: half,
         counter: counter,
         sample: sample,
@@ -123,6 +135,7 @@ fn put_idling(n: u64, x: Idling, d: Device) -> Device
 {
     let mut e = d;
     e.timers.tl1 = x.tl1;
+    e.timers.th1 = x.th1;
     e.serial.half = x.half;
     e.serial.send.counter = x.counter;
     e.serial.receive.sample = x.sample;
@@ -134,13 +147,6 @@ fn put_idling(n: u64, x: Idling, d: Device) -> Device
 pub struct IdleRound {
     pub used: u64,
     pub idling: Idling,
-}
-
-// The smaller of two numbers of cycles.
-fn least(a: u64, b: u64) -> u64
-    ensures { λ r. ⌜ r ≡ min a b ⌝ }
-{
-    if a < b { a } else { b }
 }
 
 // One round of the cycles that are left: the reload, or the counts of TL1 before it.
@@ -157,11 +163,15 @@ fn idle_round(k: Clocking, x: Idling, left: u64) -> IdleRound
     } else {
         let used = least(255 - (tl1 as u64), left);
         let up = tl1 + (used as u8);
-        let mut y = x;
-        y.tl1 = up;
         IdleRound {
             used: used,
-            idling: y,
+            idling: Idling {
+                tl1: up,
+                th1: x.th1,
+                half: x.half,
+                counter: x.counter,
+                sample: x.sample,
+            },
         }
     }
 }

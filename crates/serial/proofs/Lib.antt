@@ -1,4 +1,3 @@
-pub mod Cases
 pub mod Sending
 pub mod Receiving
 pub mod Ranges

@@ -14,7 +14,7 @@ use Rattle.machine.specs.Registers.{REN}
 use Rattle.machine.specs.Serial as S
 use Rattle.machine.specs.Serial.{withReceive, withHalf, withSample, rollsOver, counterNext}
 use Rattle.serial.specs.Rest.{startWaits, idles}
-use Rattle.serial.proofs.Cases.{cond-same, and-left, and-right, by-test}
+use Rattle.laws.proofs.Choices.{cond-same, and-left, and-right, by-test}
 use Rattle.serial.proofs.Sending.{sendCounter}
 
 -- the last line sample at l
@@ -93,15 +93,6 @@ rest-ticks k rxd s m p q h w =
     let t = withHalf (k .half) s in
     let u = sendCounter ((s .send .counter + k .send) % 16) t in
     simp (ne-eqb (serialMode (s .scon)) 0 m, rest-send-ticks (k .send) t p h) (rest-receive-ticks (k .receive) rxd u q w)
-
--- with a tick of the receiver, as every cycle of mode 2 brings, the line is sampled
-pub rest-sampled : (k : Ticks) (rxd : ℕ) (s : Serial)
-    → (serialMode (s .scon) ≡ 0 → ⊥) → s .send .position ≡ 0 → s .receive .position ≡ 0 → s .send .counter ≤ 15 → startWaits rxd s ≡ false → 1 ≤ k .receive
-    → S.serialStep k rxd s ≡ sampled rxd (sendCounter ((s .send .counter + k .send) % 16) (withHalf (k .half) s))
-rest-sampled k rxd s m p q h w l =
-    rest-ticks k rxd s m p q h w
-    ∙ ap (λ (b : Bool). sampled (cond b (s .receive .sample) rxd) (sendCounter ((s .send .counter + k .send) % 16) (withHalf (k .half) s)))
-    (ne-eqb (k .receive) 0 (λ e. omega arith))
 
 -- in any mode, by one test: nothing under way in mode 0, or no tick in the others
 pub rest-idles : (k : Ticks) (rxd : ℕ) (s : Serial) → idles k s ≡ true → S.serialStep k rxd s ≡ withHalf (k .half) s

@@ -18,7 +18,7 @@ use Rattle.machine.specs.Serial.{withSend, withReceive, withReceived, withHalf,
 use Rattle.laws.proofs.Tests.{all, at}
 use Rattle.laws.proofs.Bits.{bit-below, field-set-above, field-put-above, set-lt, put-lt}
 use Rattle.serial.specs.Ranges.{SenderOk, ReceiverOk, SerialOk, TicksOk}
-use Rattle.serial.proofs.Cases.{cond-has}
+use Rattle.laws.proofs.Choices.{cond-has}
 use Rattle.serial.proofs.Receiving.{bit-of-below, done-receive}
 
 -- the last position of mode m
@@ -274,9 +274,6 @@ step-kept k rxd s h l o =
 
 pub step-ok : (k : Ticks) (rxd : ℕ) (s : Serial) → k .half ≤ 1 → rxd ≤ 1 → SerialOk s → SerialOk (S.serialStep k rxd s)
 step-ok k rxd s h l o = ok (serialMode (s .scon)) (S.serialStep k rxd s) (step-kept k rxd s h l o)
-
-pub step-mode : (k : Ticks) (rxd : ℕ) (s : Serial) → k .half ≤ 1 → rxd ≤ 1 → SerialOk s → serialMode (S.serialStep k rxd s .scon) ≡ serialMode (s .scon)
-step-mode k rxd s h l o = step-kept k rxd s h l o .mode
 
 -- Step 4
 

@@ -10,7 +10,7 @@ use Rattle.machine.specs.declared.Serial.{Serial}
 use Rattle.machine.specs.Bits.{bit, setBit, putBit}
 use Rattle.machine.specs.Registers.{RI, RB8, SM2}
 use Rattle.machine.specs.Serial.{withReceive, withReceived, receiveAt, counterNext, receiveCounted, bitOf, frameDone}
-use Rattle.serial.proofs.Cases.{cond-ap, cond-same, cond-has}
+use Rattle.laws.proofs.Choices.{cond-ap, cond-same, cond-has}
 
 -- the count that samples the bit is no rollover
 pub counted-at9 : (scon : ℕ) (r : Receiver) → counterNext (r .counter) ≡ 9 → receiveCounted scon r .position ≡ r .position

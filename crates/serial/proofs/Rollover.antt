@@ -14,7 +14,7 @@ use Rattle.machine.specs.Registers.{REN, TI}
 use Rattle.machine.specs.Serial as S
 use Rattle.machine.specs.Serial.{withSend, withReceive, sendAt, receiveAt, withVotes, withValue, sendCounted, counterNext, rollsOver}
 use Rattle.serial.specs.Ranges.{SerialOk, TicksOk}
-use Rattle.serial.proofs.Cases.{cond-has, by-test}
+use Rattle.laws.proofs.Choices.{cond-has, by-test}
 use Rattle.serial.proofs.Receiving.{done-receive}
 use Rattle.serial.proofs.Ranges.{kept, send-kept}
 

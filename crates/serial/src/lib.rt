@@ -10,29 +10,16 @@ use laws::picked;
 use machine::Receiver;
 use machine::Serial;
 use machine::Ticks;
-
-// The bits of SCON, by their places: SM0 and SM1 are the mode.
-const SM01: u8 = 6;
-
-const SM2: u8 = 5;
-
-const REN: u8 = 4;
-
-const TB8: u8 = 3;
-
-const RB8: u8 = 2;
-
-const TI: u8 = 1;
-
-const RI: u8 = 0;
-
-// PCON.
-const SMOD: u8 = 7;
-
-// T2CON.
-const RCLK: u8 = 5;
-
-const TCLK: u8 = 4;
+use machine::places::RB8;
+use machine::places::RCLK;
+use machine::places::REN;
+use machine::places::RI;
+use machine::places::SM01;
+use machine::places::SM2;
+use machine::places::SMOD;
+use machine::places::TB8;
+use machine::places::TCLK;
+use machine::places::TI;
 
 // The serial mode.
 fn mode_of(scon: u8) -> u8
@@ -75,10 +62,10 @@ pub fn write_scon(v: u8, s: Serial) -> Serial
 // Step 4: ticks
 
 // The ticks of a direction, from those of Timer 1 and of Timer 2.
-fn ticks_of(mode: u8, smod: u8, clock: u8, one: u8, two: u8) -> u8
-    ensures { λ r. ⌜ r ≡ S.ticksOf mode smod clock one two ⌝ }
+fn ticks_of(mode: u8, smod: u8, clock: u8, by1: u8, by2: u8) -> u8
+    ensures { λ r. ⌜ r ≡ S.ticksOf mode smod clock by1 by2 ⌝ }
 {
-    let timed = picked(clock == 1, two, one);
+    let timed = picked(clock == 1, by2, by1);
     let fixed = picked(smod == 1, 6, 3);
     picked(mode == 0, 0, picked(mode == 2, fixed, timed))
 }
@@ -106,9 +93,9 @@ pub fn serial_ticks(pcon: u8, t2con: u8, s: Serial, overflow1: u8, overflows2: u
 {
     let mode = mode_of(s.scon);
     let smod = (pcon >> SMOD) & 1;
-    let one = ticks1(smod, s.half, overflow1);
-    let send = ticks_of(mode, smod, (t2con >> TCLK) & 1, one, overflows2);
-    let receive = ticks_of(mode, smod, (t2con >> RCLK) & 1, one, overflows2);
+    let by1 = ticks1(smod, s.half, overflow1);
+    let send = ticks_of(mode, smod, (t2con >> TCLK) & 1, by1, overflows2);
+    let receive = ticks_of(mode, smod, (t2con >> RCLK) & 1, by1, overflows2);
     let half = half_after(smod, s.half, overflow1);
     Ticks {
         send: send,
@@ -147,7 +134,7 @@ fn send_move(s: Serial) -> Serial
     t
 }
 
-// At most 16 ticks roll the send counter over once.
+// At most 16 ticks roll the send counter over at most once.
 fn send_ticks(n: u8, s: Serial) -> Serial
     requires { ⌜ n ≤ 16 ⌝ }
     requires { ⌜ s .send .counter ≤ 15 ⌝ }

@@ -18,14 +18,6 @@ use Rattle.strides.specs.Busy.{same}
 use Rattle.strides.specs.Stride.{roomOf, left, moves2, left2, room2, room}
 use Rattle.strides.proofs.Strides.{room-timer2}
 
--- the lesser of two
-pub min-ltb : (a b : ℕ) → min a b ≡ cond (ltb a b) a b
-min-ltb a b = go (ltb a b) refl
-  where
-    go : (t : Bool) → ltb a b ≡ t → min a b ≡ cond t a b
-    go true e = let h = ltb-true a b e in omega arith
-    go false e = let h = ltb-false a b e in omega arith
-
 -- seven saved levels
 pub same-levels : (saved : List ℕ) (l : ℕ) → length saved ≡ 7
     → same saved (levelsOf l)
@@ -44,18 +36,3 @@ same-levels (a ∷ b ∷ c ∷ d ∷ f ∷ []) l e = absurd (omega arith)
 same-levels (a ∷ b ∷ c ∷ d ∷ f ∷ g ∷ []) l e = absurd (omega arith)
 same-levels (a ∷ b ∷ c ∷ d ∷ f ∷ g ∷ h ∷ []) l e = simp and-true
 same-levels (a ∷ b ∷ c ∷ d ∷ f ∷ g ∷ h ∷ k ∷ r) l e = absurd (omega arith)
-
--- a room is a jump's at most: Timer 2's is
-room2-most : (t : Timer2) → room2 t ≤ longest
-unfolding room2 left2
-room2-most t = go (moves2 t) (baudRate t)
-  where
-    go : (moves baud : Bool) → roomOf moves (cond baud (left 16 (count2 t) / 6) (left 16 (count2 t))) ≤ longest
-    go true true = omega arith
-    go true false = omega arith
-    go false baud = omega arith
-
-pub room-most : (pins : ℕ) (d : Device) → room pins d ≤ longest
-unfolding room
-room-most pins d =
-    le-trans (room-timer2 (room pins d) (pinsOf (d .kind) pins) d (le-refl (room pins d))) (room2-most (d .timer2))

@@ -23,7 +23,8 @@ use Rattle.machine.specs.Cycle.{falls, externals, timersAfter, timer2After, tic
 use Rattle.machine.specs.Calls.{longest, flags}
 use Rattle.strides.specs.Busy.{same, overflowed, overflows, working, watched, busy}
 use Rattle.strides.specs.Stride.{levelSettled, startWaits, roomAt, strideTimers, stride2, strideSerial, strideAt, room, stride}
-use Rattle.strides.proofs.Bools.{or-left, or-right, or-neither, not-differs, same-equal, same-self}
+use Rattle.laws.proofs.Choices.{or-left, or-right, or-neither, not-differs}
+use Rattle.strides.proofs.Bools.{same-equal, same-self}
 use Rattle.strides.proofs.Settles.{seenIn, rest-settled, no-fall, externals-levels}
 use Rattle.strides.proofs.Timers.{no-flags}
 use Rattle.strides.proofs.Serial.{start-waits}
@@ -84,23 +85,23 @@ module _ (pins : ℕ) (d : Device) (b : Bounded d) (idle : busy pins d ≡ false
       same-equal (watched d) (watched (cycleOf pins d))
       (not-false (same (watched d) (watched (cycleOf pins d))) (or-right (working (cycleOf pins d)) _ (still .1)))
 
-  no-overflows : ((not (eqb (t .tl0) 0) || not (eqb (t .th0) 0)) ≡ false) × ((not (eqb (t .timer1) 0) || not (eqb (u .overflows) 0)) ≡ false)
+  no-overflows : ((not (eqb (t .overflow0) 0) || not (eqb (t .«overflow_th0») 0)) ≡ false) × ((not (eqb (t .overflow1) 0) || not (eqb (u .overflows) 0)) ≡ false)
   unfolding overflows l t u
   no-overflows =
       let e = or-left (overflows pins d) (working d) (still .0) in
-      (or-left (not (eqb (t .tl0) 0) || not (eqb (t .th0) 0)) _ e, or-right (not (eqb (t .tl0) 0) || not (eqb (t .th0) 0)) _ e)
+      (or-left (not (eqb (t .overflow0) 0) || not (eqb (t .«overflow_th0») 0)) _ e, or-right (not (eqb (t .overflow0) 0) || not (eqb (t .«overflow_th0») 0)) _ e)
 
-  over-low : t .tl0 ≡ 0
-  over-low = not-differs (t .tl0) (or-left _ (not (eqb (t .th0) 0)) (no-overflows .0))
+  over-low : t .overflow0 ≡ 0
+  over-low = not-differs (t .overflow0) (or-left _ (not (eqb (t .«overflow_th0») 0)) (no-overflows .0))
 
-  over-high : t .th0 ≡ 0
-  over-high = not-differs (t .th0) (or-right (not (eqb (t .tl0) 0)) _ (no-overflows .0))
+  over-high : t .«overflow_th0» ≡ 0
+  over-high = not-differs (t .«overflow_th0») (or-right (not (eqb (t .overflow0) 0)) _ (no-overflows .0))
 
-  over-one : t .timer1 ≡ 0
-  over-one = not-differs (t .timer1) (or-left _ (not (eqb (u .overflows) 0)) (no-overflows .1))
+  over-one : t .overflow1 ≡ 0
+  over-one = not-differs (t .overflow1) (or-left _ (not (eqb (u .overflows) 0)) (no-overflows .1))
 
   over-two : u .overflows ≡ 0
-  over-two = not-differs (u .overflows) (or-right (not (eqb (t .timer1) 0)) _ (no-overflows .1))
+  over-two = not-differs (u .overflows) (or-right (not (eqb (t .overflow1) 0)) _ (no-overflows .1))
 
   -- the positions, before and after
   sends : d .serial .send .position ≡ 0

@@ -5,10 +5,10 @@ pub mod Timers
 pub mod Timer2
 pub mod Serial
 pub mod Settles
+pub mod Steps
 pub mod Strides
 pub mod Overflows
 pub mod Exact
 pub mod Runs
 pub mod Rises
-pub mod Meaning
 pub mod Coded

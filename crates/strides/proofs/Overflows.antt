@@ -7,13 +7,13 @@ use native.Mathlib.Omega.{arith}
 use lib.Dec.{eqb}
 use Rattle.machine.specs.declared.Timers.{Timers}
 use Rattle.machine.specs.declared.Timer2.{Timer2}
-use Rattle.machine.specs.declared.Laps.{Laps}
+use Rattle.machine.specs.declared.Counted16.{Counted16}
 use Rattle.machine.specs.declared.Count.{Count}
 use Rattle.machine.specs.Bits.{bit}
 use Rattle.machine.specs.Registers.{TR2, C/T2}
 use Rattle.machine.specs.Counting.{overflow, pair13, pair16, count13, count16, reload8, count8, hold}
-use Rattle.machine.specs.Timers.{mode0, mode1, countIn, counts0, counts1, countsHigh0, pair0, pair1, highOverflow0, timersStep}
-use Rattle.machine.specs.Timer2.{rcap2, count2, lap, laps, baudRate, countsOf2, counted2, captures, baudStep, captureStep, timer2Step}
+use Rattle.machine.specs.Timers.{timer0Mode, timer1Mode, countIn, counts0, counts1, countsHigh0, pair0, pair1, highOverflow0, timersStep}
+use Rattle.machine.specs.Timer2.{rcap2, count2, countOnce, countTimes, baudRate, countsOf2, counted2, captures, baudStep, captureStep, timer2Step}
 use Rattle.laws.proofs.Counting.{nextOr-up}
 use Rattle.strides.specs.Stride.{roomOf, left, leftIn, moves1, roomTimers, moves2, left2, room2}
 use Rattle.strides.proofs.Pairs.{no-mode}
@@ -66,40 +66,40 @@ keeps-high counts mode tl th e = ap (λ (n : ℕ). (cond counts (countIn n (coun
     go true = refl
     go false = refl
 
-pub timers-room-left : (l : ℕ) (t : Timers) → timersStep t l .tl0 ≡ 0 → timersStep t l .th0 ≡ 0 → timersStep t l .timer1 ≡ 0
+pub timers-room-left : (l : ℕ) (t : Timers) → timersStep t l .overflow0 ≡ 0 → timersStep t l .«overflow_th0» ≡ 0 → timersStep t l .overflow1 ≡ 0
     → 1 ≤ roomTimers l t
 unfolding timersStep roomTimers pair0 pair1 highOverflow0 moves1
 timers-room-left l t p q r =
-    le-min (low-left (counts0 t l) (mode0 t) (t .tl0) (t .th0) p)
+    le-min (low-left (counts0 t l) (timer0Mode t) (t .tl0) (t .th0) p)
     (le-min
-    (high-left (countsHigh0 t) (t .th0) (pair0 t l .th) (λ e. keeps-high (counts0 t l) (mode0 t) (t .tl0) (t .th0) (high-mode t e)) q)
-    (one-left (counts1 t l) (mode1 t) (t .tl1) (t .th1) (mod-lt (t .tmod / 2 ^ 4) (zero-lt-suc 3)) (eqb (mode1 t) 3) refl r))
+    (high-left (countsHigh0 t) (t .th0) (pair0 t l .th) (λ e. keeps-high (counts0 t l) (timer0Mode t) (t .tl0) (t .th0) (high-mode t e)) q)
+    (one-left (counts1 t l) (timer1Mode t) (t .tl1) (t .th1) (mod-lt (t .tmod / 2 ^ 4) (zero-lt-suc 3)) (eqb (timer1Mode t) 3) refl r))
 
 -- Timer 2
 
-laps-grow : (n reload : ℕ) (s : Laps) → s .overflows ≤ laps n reload s .overflows
-unfolding laps lap
-laps-grow zero reload s = omega arith
-laps-grow (suc n) reload s = le-trans (omega arith) (laps-grow n reload (lap reload s))
+countTimes-grow : (n reload : ℕ) (s : Counted16) → s .overflows ≤ countTimes n reload s .overflows
+unfolding countTimes countOnce
+countTimes-grow zero reload s = omega arith
+countTimes-grow (suc n) reload s = le-trans (omega arith) (countTimes-grow n reload (countOnce reload s))
 
-lap-left : (reload : ℕ) (s : Laps) → lap reload s .overflows ≡ 0 → s .count + 1 < 65536
-unfolding lap
-lap-left reload s e = omega arith
+countOnce-left : (reload : ℕ) (s : Counted16) → countOnce reload s .overflows ≡ 0 → s .count + 1 < 65536
+unfolding countOnce
+countOnce-left reload s e = omega arith
 
-lap-count : (reload : ℕ) (s : Laps) → s .count + 1 < 2 ^ 16 → lap reload s .count ≡ s .count + 1
-unfolding lap
-lap-count reload s h = nextOr-up 16 reload (s .count) h
+countOnce-count : (reload : ℕ) (s : Counted16) → s .count + 1 < 2 ^ 16 → countOnce reload s .count ≡ s .count + 1
+unfolding countOnce
+countOnce-count reload s h = nextOr-up 16 reload (s .count) h
 
 -- counts in turn, none of which overflows
-laps-left : (n reload : ℕ) (s : Laps) → laps (suc n) reload s .overflows ≡ 0 → s .count + suc n < 65536
-unfolding laps
-laps-left zero reload s e = lap-left reload s e
-laps-left (suc n) reload s e =
-    let grow = laps-grow (suc n) reload (lap reload s) in
-    let none : lap reload s .overflows ≡ 0 = omega arith in
-    let first = lap-left reload s none in
-    let next = lap-count reload s first in
-    let later = laps-left n reload (lap reload s) e in
+countTimes-left : (n reload : ℕ) (s : Counted16) → countTimes (suc n) reload s .overflows ≡ 0 → s .count + suc n < 65536
+unfolding countTimes
+countTimes-left zero reload s e = countOnce-left reload s e
+countTimes-left (suc n) reload s e =
+    let grow = countTimes-grow (suc n) reload (countOnce reload s) in
+    let none : countOnce reload s .overflows ≡ 0 = omega arith in
+    let first = countOnce-left reload s none in
+    let next = countOnce-count reload s first in
+    let later = countTimes-left n reload (countOnce reload s) e in
     omega arith
 
 -- as a timer it counts `each` times
@@ -107,10 +107,10 @@ counted-left : (each reload : ℕ) (t : Timer2) → eqb (bit C/T2 (t .t2con)) 0 
     → counted2 (suc each) reload t .overflows ≡ 0 → count2 t + suc each < 65536
 unfolding counted2 countsOf2
 counted-left each reload t c e =
-    laps-left each reload (record { count = count2 t; overflows = 0 })
-    (ap (λ (b : Bool). laps (cond b (suc each) (cond (eqb (t .due2) 1) 1 0)) reload start .overflows) (sym c) ∙ e)
+    countTimes-left each reload (record { count = count2 t; overflows = 0 })
+    (ap (λ (b : Bool). countTimes (cond b (suc each) (cond (eqb (t .due2) 1) 1 0)) reload start .overflows) (sym c) ∙ e)
   where
-    start : Laps
+    start : Counted16
     start = record { count = count2 t; overflows = 0 }
 
 pub timer2-room-left : (t : Timer2) (fell : ℕ) → timer2Step t fell .overflows ≡ 0 → 1 ≤ room2 t

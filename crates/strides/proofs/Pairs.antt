@@ -9,23 +9,23 @@ use Rattle.machine.specs.declared.Count.{Count}
 use Rattle.machine.specs.Counting.{pair13, pair16, count13, count16, reload8, hold}
 use Rattle.machine.specs.Timers.{countIn}
 use Rattle.machine.specs.Calls.{longest}
-use Rattle.strides.proofs.Records.{count-path}
+use Rattle.laws.proofs.Counting.{count-eq}
 use Rattle.strides.specs.Stride.{roomOf, left, leftIn, by13, by16, by8, movedIn, moved}
 
 -- one count within the room
 one13 : (tl th : ℕ) → 1 ≤ left 13 (pair13 tl th) → count13 tl th ≡ by13 1 tl th
 unfolding count13
-one13 tl th h = count-path (omega arith) (omega arith) (omega arith)
+one13 tl th h = count-eq (omega arith) (omega arith) (omega arith)
 
 one16 : (tl th : ℕ) → 1 ≤ left 16 (pair16 tl th) → count16 tl th ≡ by16 1 tl th
 unfolding count16
-one16 tl th h = count-path (omega arith) (omega arith) (omega arith)
+one16 tl th h = count-eq (omega arith) (omega arith) (omega arith)
 
 one8 : (tl th : ℕ) → 1 ≤ left 8 tl → reload8 tl th ≡ by8 1 tl th
 unfolding reload8
 one8 tl th h =
     let z : (tl + 1) / 2 ^ 8 ≡ 0 = omega arith in
-    count-path (simp z (omega arith)) refl (omega arith)
+    count-eq (simp z (omega arith)) refl (omega arith)
 
 -- there are four modes
 pub no-mode : (mode : ℕ) → mode < 4 → eqb mode 0 ≡ false → eqb mode 1 ≡ false → eqb mode 2 ≡ false → eqb mode 3 ≡ false → ⊥
@@ -56,25 +56,25 @@ one-count mode tl th three = go (eqb mode 0) (eqb mode 1) (eqb mode 2)
 -- no move
 none13 : (tl th : ℕ) → by13 0 tl th ≡ hold tl th
 unfolding hold
-none13 tl th = count-path (omega arith) (omega arith) refl
+none13 tl th = count-eq (omega arith) (omega arith) refl
 
 none16 : (tl th : ℕ) → tl < 256 → by16 0 tl th ≡ hold tl th
 unfolding hold
-none16 tl th h = count-path (omega arith) (omega arith) refl
+none16 tl th h = count-eq (omega arith) (omega arith) refl
 
 none8 : (tl th : ℕ) → by8 0 tl th ≡ hold tl th
 unfolding hold
-none8 tl th = count-path (omega arith) refl refl
+none8 tl th = count-eq (omega arith) refl refl
 
 -- a move of m after a move of 1
 more13 : (m tl th : ℕ) → by13 m (by13 1 tl th .tl) (by13 1 tl th .th) ≡ by13 (suc m) tl th
-more13 m tl th = count-path (omega arith) (omega arith) refl
+more13 m tl th = count-eq (omega arith) (omega arith) refl
 
 more16 : (m tl th : ℕ) → by16 m (by16 1 tl th .tl) (by16 1 tl th .th) ≡ by16 (suc m) tl th
-more16 m tl th = count-path (omega arith) (omega arith) refl
+more16 m tl th = count-eq (omega arith) (omega arith) refl
 
 more8 : (m tl th : ℕ) → by8 m (by8 1 tl th .tl) (by8 1 tl th .th) ≡ by8 (suc m) tl th
-more8 m tl th = count-path (omega arith) refl refl
+more8 m tl th = count-eq (omega arith) refl refl
 
 -- a timer that counts or not, in a mode
 module _ (counts : Bool) (mode tl th : ℕ) where

@@ -3,11 +3,7 @@ use Prim.Native.Nat.{ℕ}
 use mathlib.Core.Path.{_≡_}
 use Rattle.machine.specs.declared.Timers.{Timers}
 use Rattle.machine.specs.declared.TimersCounted.{TimersCounted}
-use Rattle.machine.specs.declared.Count.{Count}
 use Rattle.machine.specs.declared.Timer2.{Timer2}
-
-pub count-path : {a b : Count} → a .tl ≡ b .tl → a .th ≡ b .th → a .overflow ≡ b .overflow → a ≡ b
-count-path p q r = λ i. record { tl = p i; th = q i; overflow = r i }
 
 -- the registers that a stride moves; the others are the same
 pub timers-path : {a b : Timers} → a .tcon ≡ b .tcon → a .tmod ≡ b .tmod → a .tl0 ≡ b .tl0 → a .tl1 ≡ b .tl1
@@ -15,9 +11,9 @@ pub timers-path : {a b : Timers} → a .tcon ≡ b .tcon → a .tmod ≡ b .tmod
 timers-path p q r s t u v w =
     λ i. record { tcon = p i; tmod = q i; tl0 = r i; tl1 = s i; th0 = t i; th1 = u i; due0 = v i; due1 = w i }
 
-pub timers-counted-path : {a b : TimersCounted} → a .timers ≡ b .timers → a .tl0 ≡ b .tl0 → a .th0 ≡ b .th0
-    → a .timer1 ≡ b .timer1 → a ≡ b
-timers-counted-path p q r s = λ i. record { timers = p i; tl0 = q i; th0 = r i; timer1 = s i }
+pub timers-counted-path : {a b : TimersCounted} → a .timers ≡ b .timers → a .overflow0 ≡ b .overflow0 → a .«overflow_th0» ≡ b .«overflow_th0»
+    → a .overflow1 ≡ b .overflow1 → a ≡ b
+timers-counted-path p q r s = λ i. record { timers = p i; overflow0 = q i; «overflow_th0» = r i; overflow1 = s i }
 
 -- Timer 2 with the same T2CON, RCAP2 and due mark
 pub count2-path : (t : Timer2) {a b c d : ℕ} → a ≡ b → c ≡ d

@@ -13,7 +13,8 @@ use Rattle.machine.specs.declared.LookAnswer.the-variants.{At, Nothing}
 use Rattle.machine.specs.Cycle.{cycleOf, cycles}
 use Rattle.machine.specs.Calls.{flags, anyRises, rises, firstRise}
 use Rattle.strides.specs.Stride.{room, stride, strideAt, strideTimers, stride2, strideSerial}
-use Rattle.strides.proofs.Bools.{or-neither, never-both}
+use Rattle.laws.proofs.Choices.{or-neither}
+use Rattle.strides.proofs.Bools.{never-both}
 use Rattle.strides.proofs.Strides.{Bounded, quiet-cycle}
 use Rattle.strides.proofs.Runs.{cycle-bounded, cycle-room}
 
@@ -36,7 +37,7 @@ rise-later k n pins d h e = go (n - k) (n - (k + 1)) (omega arith)
     go a b q = simp (q, e, add-one)
 
 -- flags that stay do not rise
-none-rises : (xs : List ℕ) → anyRises xs xs ≡ false
+pub none-rises : (xs : List ℕ) → anyRises xs xs ≡ false
 unfolding anyRises
 none-rises [] = refl
 none-rises (x ∷ xs) =
@@ -79,9 +80,6 @@ module _ (k n pins : ℕ) (d : Device) {v : LookAnswer} (inv : firstRise k (n - 
   pub on-stride : (m : ℕ) {u : Device} → Bounded d → m ≤ room pins d → k + m ≤ n → u ≡ cycles m pins d
       → firstRise (k + m) (n - (k + m)) pins u ≡ v
   on-stride m b h w e = ap (firstRise (k + m) (n - (k + m)) pins) e ∙ (sym (rise-stride m n k pins d b h w) ∙ inv)
-
-  pub on-quiet : Bounded d → n - k ≤ room pins d → Nothing ≡ v
-  on-quiet b h = sym (rise-quiet (n - k) k pins d b h) ∙ inv
 
   pub on-none : n ≤ k → Nothing ≡ v
   on-none h = sym (rise-none k (n - k) pins d (omega arith)) ∙ inv

@@ -44,9 +44,3 @@ module _ (pins : ℕ) (d : Device) (b : Bounded d) where
 
   pub cycle-room : (m : ℕ) → suc m ≤ room pins d → m ≤ room pins (cycleOf pins d)
   cycle-room m h = rw (quiet-cycle pins d b (omega arith)) (room-less pins d m h)
-
-  pub cycles-bounded : (m : ℕ) → m ≤ room pins d → Bounded (cycles m pins d)
-  cycles-bounded m h = rw (stride-law m pins d b h) (stride-bounded pins d m b h)
-
-  pub cycles-room : (k m : ℕ) → k + m ≤ room pins d → k ≤ room pins (cycles m pins d)
-  cycles-room k m h = rw (stride-law m pins d b (omega arith)) (room-left pins d k m h)

@@ -11,7 +11,8 @@ use Rattle.machine.specs.Registers.{SMOD, REN, RCLK, TCLK}
 use Rattle.machine.specs.Record.{serialMode}
 use Rattle.machine.specs.Serial.{halfAfter, ticks1, ticksOf, serialTicks, withSend, withReceive, withHalf, withSample, sendCounted, sendMove, sendTick, sendTicks, send, receiveStart, receiveCounted, receiveWork, receiveTick, receiveTicks, receiveShift, receive, serialStep}
 use Rattle.strides.specs.Stride.{startWaits, ticks2, sampled, strideSerial}
-use Rattle.strides.proofs.Bools.{clash, and-left, never-both}
+use Rattle.laws.proofs.Choices.{clash, and-left}
+use Rattle.strides.proofs.Bools.{never-both}
 
 -- the serial port with another send counter
 counterAt : ℕ → Serial → Serial

@@ -14,7 +14,8 @@ use Rattle.machine.specs.Interrupts.{external, seenOf}
 use Rattle.machine.specs.Cycle.{falls, externals}
 use Rattle.strides.specs.Busy.{same}
 use Rattle.strides.specs.Stride.{levelSettled, timersSettled, startWaits, serialSettled, interruptsSettled, settledAt}
-use Rattle.strides.proofs.Bools.{and-two, and-four, same-equal, same-self, never-both}
+use Rattle.laws.proofs.Choices.{and-two, and-four}
+use Rattle.strides.proofs.Bools.{same-equal, same-self, never-both}
 
 -- seen as the flags have it
 abbrev pub seenIn : Device → ℕ

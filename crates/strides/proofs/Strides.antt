@@ -22,7 +22,8 @@ use Rattle.machine.specs.Interrupts.{seenOf}
 use Rattle.machine.specs.Cycle.{falls, polling, externals, timersAfter, timer2After, ticksIn, steps, cycleOf, cycles}
 use Rattle.machine.specs.Calls.{longest}
 use Rattle.strides.specs.Stride.{settledAt, roomTimers, room2, roomAt, strideTimers, stride2, strideSerial, strideAt, room, stride}
-use Rattle.strides.proofs.Settles.{Rest, settled-rest, rest-settled, no-fall, externals-rest}
+use Rattle.strides.proofs.Settles.{Rest, settled-rest, rest-settled, no-fall}
+use Rattle.strides.proofs.Steps.{Kept, fallen, steps-rest}
 use Rattle.strides.proofs.Timers.{quiet-timers, timers-none, timers-more, timers-left, timers-back, timers-low0, timers-low1}
 use Rattle.strides.proofs.Timer2.{quiet-timer2, timer2-none, timer2-more, timer2-left, timer2-back, timer2-low}
 use Rattle.strides.proofs.Serial.{quiet-serial, serial-none, serial-more, serial-waits, serial-counter}
@@ -38,95 +39,28 @@ pub record Bounded (d : Device) : Type 0 where
 
 -- One cycle
 
--- step 7 of Timers 0 and 1 at rest
-timers-after : (saved : List ℕ) (l : ℕ) (t : Timers) → externals saved l (t .tcon) ≡ t .tcon
-    → falls saved l T0 ≡ t .due0 → falls saved l T1 ≡ t .due1 → timersAfter saved l t ≡ t
-unfolding timersAfter
-timers-after saved l t p q r =
-    λ i. record { tcon = p i; tmod = t .tmod; tl0 = t .tl0; tl1 = t .tl1; th0 = t .th0; th1 = t .th1; due0 = q i; due1 = r i }
-
-timer2-after : (saved : List ℕ) (l : ℕ) (t : Timer2) → falls saved l T2 ≡ t .due2 → timer2After saved l t ≡ t
-unfolding timer2After
-timer2-after saved l t p =
-    λ i. record { t2con = t .t2con; rcap2l = t .rcap2l; rcap2h = t .rcap2h; tl2 = t .tl2; th2 = t .th2; due2 = p i }
-
--- the device after a cycle, from its parts after it
-after : ℕ → Device → Timers → Timer2 → Serial → Device
-after l d t u s =
-    record {
-      kind = d .kind;
-      pcon = d .pcon;
-      timers = t;
-      timer2 = u;
-      serial = s;
-      interrupts = polling (seenOf (t .tcon) (s .scon) (u .t2con)) (d .interrupts);
-      levels = levelsOf l;
-      cycle = (d .cycle + 1) % 2 ^ 64;
-    }
-
 module _ (l : ℕ) (d : Device) (b : Bounded d) (r : Rest l d) where
-  -- no pin falls
-  fallen : (k : ℕ) → falls (levelsOf l) l k ≡ 0 → falls (d .levels) l k ≡ 0
-  fallen k e = ap (λ (saved : List ℕ). falls saved l k) (r .levels) ∙ e
-
   pub step2 : 1 ≤ roomTimers l (d .timers)
-      → timersStep (d .timers) l ≡ record { timers = strideTimers 1 l (d .timers); tl0 = 0; th0 = 0; timer1 = 0 }
+      → timersStep (d .timers) l ≡ record { timers = strideTimers 1 l (d .timers); overflow0 = 0; «overflow_th0» = 0; overflow1 = 0 }
   step2 h = quiet-timers l (d .timers) h
 
   pub step3 : 1 ≤ room2 (d .timer2)
       → timer2Step (d .timer2) (falls (d .levels) l T2EX) ≡ record { timer2 = stride2 1 (d .timer2); overflows = 0; tf2 = 0 }
   unfolding levelsOf
-  step3 h = ap (timer2Step (d .timer2)) (fallen T2EX (no-fall l T2EX refl)) ∙ quiet-timer2 (d .timer2) (r .due2) (b .tl2) h
+  step3 h = ap (timer2Step (d .timer2)) (fallen l d r T2EX (no-fall l T2EX refl)) ∙ quiet-timer2 (d .timer2) (r .due2) (b .tl2) h
 
-  step5 : (t : TimersCounted) (u : Timer2Counted) → t .timer1 ≡ 0 → u .overflows ≡ 0
+  step5 : (t : TimersCounted) (u : Timer2Counted) → t .overflow1 ≡ 0 → u .overflows ≡ 0
       → serialStep (ticksIn d t u) (bit RXD l) (d .serial) ≡ strideSerial 1 (bit SMOD (d .pcon)) (bit RXD l) (d .serial)
   unfolding ticksIn
   step5 t u p q =
       (λ i. serialStep (serialTicks (d .pcon) (d .timer2 .t2con) (d .serial) (p i) (q i)) (bit RXD l) (d .serial))
       ∙ quiet-serial (d .pcon) (d .timer2 .t2con) (bit RXD l) (d .serial) (b .counter) (b .half) (r .sends) (r .receives) (r .waits)
 
-  -- steps 6 and 7
-  step6 : timersAfter (d .levels) l (strideTimers 1 l (d .timers)) ≡ strideTimers 1 l (d .timers)
-  unfolding strideTimers levelsOf
-  step6 =
-      timers-after (d .levels) l (strideTimers 1 l (d .timers))
-      (ap (λ (saved : List ℕ). externals saved l (d .timers .tcon)) (r .levels)
-      ∙ externals-rest l (d .timers .tcon) (r .level0) (r .level1))
-      (fallen T0 (no-fall l T0 refl) ∙ sym (r .due0)) (fallen T1 (no-fall l T1 refl) ∙ sym (r .due1))
-
-  step7 : timer2After (d .levels) l (stride2 1 (d .timer2)) ≡ stride2 1 (d .timer2)
-  unfolding stride2 levelsOf
-  step7 = timer2-after (d .levels) l (stride2 1 (d .timer2)) (fallen T2 (no-fall l T2 refl) ∙ sym (r .due2))
-
   quiet-steps : 1 ≤ roomTimers l (d .timers) → 1 ≤ room2 (d .timer2) → steps d l ≡ strideAt 1 l d
-  unfolding steps strideAt after strideTimers stride2 strideSerial timer2After
-  quiet-steps h k = (λ i. after l d (timers i) (timer2 i) (serial i)) ∙ (λ i. record {
-    kind = d .kind;
-    pcon = d .pcon;
-    timers = strideTimers 1 l (d .timers);
-    timer2 = stride2 1 (d .timer2);
-    serial = strideSerial 1 (bit SMOD (d .pcon)) (bit RXD l) (d .serial);
-    interrupts = record {
-      ie = d .interrupts .ie;
-      ip = d .interrupts .ip;
-      seen = sym (r .seen) i;
-      polled = (r .seen ∙ sym (r .polled)) i;
-      low = d .interrupts .low;
-      high = d .interrupts .high;
-    };
-    levels = sym (r .levels) i;
-    cycle = (d .cycle + 1) % 2 ^ 64;
-  })
-    where
-      timers : timersAfter (d .levels) l (timersStep (d .timers) l .timers) ≡ strideTimers 1 l (d .timers)
-      timers = ap (λ (c : TimersCounted). timersAfter (d .levels) l (c .timers)) (step2 h) ∙ step6
-
-      timer2 : timer2After (d .levels) l (timer2Step (d .timer2) (falls (d .levels) l T2EX) .timer2) ≡ stride2 1 (d .timer2)
-      timer2 = ap (λ (c : Timer2Counted). timer2After (d .levels) l (c .timer2)) (step3 k) ∙ step7
-
-      serial : serialStep (ticksIn d (timersStep (d .timers) l) (timer2Step (d .timer2) (falls (d .levels) l T2EX))) (bit RXD l) (d .serial)
-          ≡ strideSerial 1 (bit SMOD (d .pcon)) (bit RXD l) (d .serial)
-      serial = step5 _ _ (ap (λ (c : TimersCounted). c .timer1) (step2 h)) (ap (λ (c : Timer2Counted). c .overflows) (step3 k))
+  unfolding strideAt strideTimers stride2 strideSerial
+  quiet-steps h k =
+      steps-rest l d r _ _ _ (step2 h) (step3 k) (step5 _ _ refl refl)
+      (record { tcon = refl; due0 = refl; due1 = refl; t2con = refl; due2 = refl; scon = refl })
 
 -- A stride keeps what is asked of a device, and leaves it settled
 

@@ -7,33 +7,33 @@ use native.Mathlib.Omega.{arith}
 use lib.Dec.{eqb}
 use Rattle.machine.specs.declared.Timer2.{Timer2}
 use Rattle.machine.specs.declared.Timer2Counted.{Timer2Counted}
-use Rattle.machine.specs.declared.Laps.{Laps}
+use Rattle.machine.specs.declared.Counted16.{Counted16}
 use Rattle.machine.specs.Bits.{bit}
 use Rattle.machine.specs.Registers.{TF2, TR2, C/T2}
 use Rattle.machine.specs.Timers.{flagged}
-use Rattle.machine.specs.Timer2.{rcap2, count2, withT2con, withCount2, laps, baudRate, countsOf2, heedsT2EX, captures, counted2, baudStep, captureStep, timer2Step}
+use Rattle.machine.specs.Timer2.{rcap2, count2, withT2con, withCount2, countTimes, baudRate, countsOf2, heedsT2EX, captures, counted2, baudStep, captureStep, timer2Step}
 use Rattle.machine.specs.Calls.{longest}
 use Rattle.laws.specs.Counting.{overflowsOr}
-use Rattle.laws.proofs.Counting.{countsOr-up, overflowsOr-up, laps-are}
+use Rattle.laws.proofs.Counting.{countsOr-up, overflowsOr-up, countTimes-are}
 use Rattle.strides.specs.Stride.{roomOf, left, moves2, left2, room2, counts2, stride2}
-use Rattle.strides.proofs.Bools.{clash}
+use Rattle.laws.proofs.Choices.{clash}
 use Rattle.strides.proofs.Pairs.{unit-room, unit-back}
 use Rattle.strides.proofs.Records.{count2-path}
 
 -- n counts in turn without an overflow
-laps-quiet : (n reload count : ℕ) → count + n < 2 ^ 16
-    → laps n reload (record { count = count; overflows = 0 }) ≡ record { count = count + n; overflows = 0 }
-laps-quiet n reload count h =
-    laps-are n reload count 0
+countTimes-quiet : (n reload count : ℕ) → count + n < 2 ^ 16
+    → countTimes n reload (record { count = count; overflows = 0 }) ≡ record { count = count + n; overflows = 0 }
+countTimes-quiet n reload count h =
+    countTimes-are n reload count 0
     ∙ (λ i. record {
       count = countsOr-up n 16 reload count h i;
       overflows = (zero-add (overflowsOr n 16 reload count) ∙ overflowsOr-up n 16 reload count h) i;
     })
 
-laps-none : (reload count : ℕ)
-    → laps 0 reload (record { count = count; overflows = 0 }) ≡ record { count = count + 0; overflows = 0 }
-unfolding laps
-laps-none reload count = λ i. record { count = sym (add-zero count) i; overflows = 0 }
+countTimes-none : (reload count : ℕ)
+    → countTimes 0 reload (record { count = count; overflows = 0 }) ≡ record { count = count + 0; overflows = 0 }
+unfolding countTimes
+countTimes-none reload count = λ i. record { count = sym (add-zero count) i; overflows = 0 }
 
 -- the counts of a quiet cycle: none as a counter
 counted-quiet : (each reload : ℕ) (t : Timer2) → t .due2 ≡ 0 → (timer : Bool) → eqb (bit C/T2 (t .t2con)) 0 ≡ timer
@@ -41,9 +41,9 @@ counted-quiet : (each reload : ℕ) (t : Timer2) → t .due2 ≡ 0 → (timer : 
     → counted2 each reload t ≡ record { count = count2 t + cond timer each 0; overflows = 0 }
 unfolding counted2 countsOf2
 counted-quiet each reload t e true c h =
-    simp c (laps-quiet each reload (count2 t) (h refl))
+    simp c (countTimes-quiet each reload (count2 t) (h refl))
 counted-quiet each reload t e false c h =
-    simp (c, e) (laps-none reload (count2 t))
+    simp (c, e) (countTimes-none reload (count2 t))
 
 -- no count
 count-none : (t : Timer2) → t .tl2 < 256 → withCount2 (count2 t + 0) t ≡ t
@@ -54,14 +54,14 @@ module _ (t : Timer2) (e : t .due2 ≡ 0) (timer : Bool) (c : eqb (bit C/T2 (t .
       → baudStep t 0 ≡ record { timer2 = withCount2 (count2 t + cond timer 6 0) t; overflows = 0; tf2 = 0 }
   unfolding baudStep heedsT2EX flagged
   baud-quiet h =
-      ap (λ (s : Laps). record { timer2 = withCount2 (s .count) t; overflows = s .overflows; tf2 = 0 })
+      ap (λ (s : Counted16). record { timer2 = withCount2 (s .count) t; overflows = s .overflows; tf2 = 0 })
       (counted-quiet 6 (rcap2 t) t e timer c h)
 
   capture-quiet : (timer ≡ true → count2 t + 1 < 65536)
       → captureStep t 0 ≡ record { timer2 = withCount2 (count2 t + cond timer 1 0) t; overflows = 0; tf2 = 0 }
   unfolding captureStep heedsT2EX flagged
   capture-quiet h =
-      ap (λ (s : Laps). record {
+      ap (λ (s : Counted16). record {
         timer2 = withT2con (flagged TF2 (s .overflows) (t .t2con)) (withCount2 (s .count) t);
         overflows = s .overflows;
         tf2 = s .overflows;

@@ -9,11 +9,12 @@ use borrow.Author.Tests.{eqb-true}
 use Rattle.machine.specs.declared.Timers.{Timers}
 use Rattle.machine.specs.declared.Count.{Count}
 use Rattle.machine.specs.Counting.{next, overflow, count8, hold}
-use Rattle.machine.specs.Timers.{mode0, mode1, countIn, flagged, counts0, counts1, countsHigh0, pair0, high0, highOverflow0, pair1, timerFlags, timersStep}
+use Rattle.machine.specs.Timers.{timer0Mode, timer1Mode, countIn, flagged, counts0, counts1, countsHigh0, pair0, high0, highOverflow0, pair1, timerFlags, timersStep}
 use Rattle.machine.specs.Calls.{longest}
 use Rattle.strides.specs.Stride.{roomOf, left, leftIn, by8, moved, moves1, roomTimers, strideTimers}
-use Rattle.strides.proofs.Bools.{and-left}
-use Rattle.strides.proofs.Records.{count-path, timers-path, timers-counted-path}
+use Rattle.laws.proofs.Choices.{and-left}
+use Rattle.strides.proofs.Records.{timers-path, timers-counted-path}
+use Rattle.laws.proofs.Counting.{count-eq}
 use Rattle.strides.proofs.Pairs.{no-mode, one-count, moved-none, moved-more, moved-still, moved-below, moved-room, moved-low, moved-high, left-low, unit-room, unit-back}
 
 -- One cycle
@@ -25,7 +26,7 @@ low-quiet false mode tl th h = refl
 low-quiet true mode tl th h = one-count mode tl th (count8 tl th) h (λ x y z k. eight k)
   where
     eight : 1 ≤ left 8 tl → count8 tl th ≡ by8 1 tl th
-    eight k = count-path (omega arith) refl (omega arith)
+    eight k = count-eq (omega arith) refl (omega arith)
 
 -- Timer 1 holds in mode 3
 one-quiet : (counts : Bool) (mode tl th : ℕ) → mode < 4 → (three : Bool) → eqb mode 3 ≡ three
@@ -42,13 +43,13 @@ one-quiet true mode tl th f false e h =
     (λ x y z k. absurd (no-mode mode f x y z e))
 
 -- TH0 counts apart only in mode 3
-pub high-mode : (t : Timers) → countsHigh0 t ≡ true → mode0 t ≡ 3
+pub high-mode : (t : Timers) → countsHigh0 t ≡ true → timer0Mode t ≡ 3
 unfolding countsHigh0
-high-mode t e = eqb-true (mode0 t) 3 (and-left (eqb (mode0 t) 3) _ e)
+high-mode t e = eqb-true (timer0Mode t) 3 (and-left (eqb (timer0Mode t) 3) _ e)
 
 pub no-flags : (t : Timers) → timerFlags t 0 0 0 ≡ t .tcon
 unfolding timerFlags flagged
-no-flags t = go (eqb (mode0 t) 3)
+no-flags t = go (eqb (timer0Mode t) 3)
   where
     go : (b : Bool) → flagged 7 (cond b 0 0) (t .tcon) ≡ t .tcon
     go true = refl
@@ -67,7 +68,7 @@ high-still false th now e h = refl
 
 -- the room of each unit
 module _ (k l : ℕ) (t : Timers) (h : k ≤ roomTimers l t) where
-  pub room-low : k ≤ roomOf (counts0 t l) (leftIn (mode0 t) (t .tl0) (t .th0))
+  pub room-low : k ≤ roomOf (counts0 t l) (leftIn (timer0Mode t) (t .tl0) (t .th0))
   unfolding roomTimers
   room-low = omega arith
 
@@ -75,17 +76,17 @@ module _ (k l : ℕ) (t : Timers) (h : k ≤ roomTimers l t) where
   unfolding roomTimers
   room-high = omega arith
 
-  pub room-one : k ≤ roomOf (moves1 t l) (leftIn (mode1 t) (t .tl1) (t .th1))
+  pub room-one : k ≤ roomOf (moves1 t l) (leftIn (timer1Mode t) (t .tl1) (t .th1))
   unfolding roomTimers
   room-one = omega arith
 
 -- step 2 of a quiet cycle moves the timers by 1 and hands on no overflow
 module _ (l : ℕ) (t : Timers) where
   low0 : ℕ → Count
-  low0 m = moved m (counts0 t l) (mode0 t) (t .tl0) (t .th0)
+  low0 m = moved m (counts0 t l) (timer0Mode t) (t .tl0) (t .th0)
 
   pub quiet-timers : 1 ≤ roomTimers l t
-      → timersStep t l ≡ record { timers = strideTimers 1 l t; tl0 = 0; th0 = 0; timer1 = 0 }
+      → timersStep t l ≡ record { timers = strideTimers 1 l t; overflow0 = 0; «overflow_th0» = 0; overflow1 = 0 }
   unfolding timersStep strideTimers roomTimers pair0 pair1 moves1 high0 highOverflow0 low0
   quiet-timers h =
       timers-counted-path
@@ -95,19 +96,19 @@ module _ (l : ℕ) (t : Timers) where
       low-over high-over one-over
     where
       low : pair0 t l ≡ low0 1
-      low = low-quiet (counts0 t l) (mode0 t) (t .tl0) (t .th0) (room-low 1 l t h)
+      low = low-quiet (counts0 t l) (timer0Mode t) (t .tl0) (t .th0) (room-low 1 l t h)
 
-      one : pair1 t l ≡ moved 1 (moves1 t l) (mode1 t) (t .tl1) (t .th1)
-      one = one-quiet (counts1 t l) (mode1 t) (t .tl1) (t .th1) (mod-lt (t .tmod / 2 ^ 4) (zero-lt-suc 3)) (eqb (mode1 t) 3) refl (room-one 1 l t h)
+      one : pair1 t l ≡ moved 1 (moves1 t l) (timer1Mode t) (t .tl1) (t .th1)
+      one = one-quiet (counts1 t l) (timer1Mode t) (t .tl1) (t .th1) (mod-lt (t .tmod / 2 ^ 4) (zero-lt-suc 3)) (eqb (timer1Mode t) 3) refl (room-one 1 l t h)
 
       apart : countsHigh0 t ≡ true → low0 1 .th ≡ t .th0
-      apart e = moved-high 1 (counts0 t l) (mode0 t) (t .tl0) (t .th0) (high-mode t e)
+      apart e = moved-high 1 (counts0 t l) (timer0Mode t) (t .tl0) (t .th0) (high-mode t e)
 
       low-over : pair0 t l .overflow ≡ 0
-      low-over = ap (λ (c : Count). c .overflow) low ∙ moved-still (counts0 t l) (mode0 t) (t .tl0) (t .th0) 1
+      low-over = ap (λ (c : Count). c .overflow) low ∙ moved-still (counts0 t l) (timer0Mode t) (t .tl0) (t .th0) 1
 
       one-over : pair1 t l .overflow ≡ 0
-      one-over = ap (λ (c : Count). c .overflow) one ∙ moved-still (moves1 t l) (mode1 t) (t .tl1) (t .th1) 1
+      one-over = ap (λ (c : Count). c .overflow) one ∙ moved-still (moves1 t l) (timer1Mode t) (t .tl1) (t .th1) 1
 
       high-over : highOverflow0 t (pair0 t l .th) ≡ 0
       high-over =
@@ -170,31 +171,31 @@ module _ (l : ℕ) (t : Timers) where
       timers-path refl refl (ap (λ (c : Count). c .tl) low) (ap (λ (c : Count). c .tl) one)
       (high-none (countsHigh0 t) (t .th0) _ (ap (λ (c : Count). c .th) low)) (ap (λ (c : Count). c .th) one) refl refl
     where
-      low : moved 0 (counts0 t l) (mode0 t) (t .tl0) (t .th0) ≡ hold (t .tl0) (t .th0)
-      low = moved-none (counts0 t l) (mode0 t) (t .tl0) (t .th0) f
+      low : moved 0 (counts0 t l) (timer0Mode t) (t .tl0) (t .th0) ≡ hold (t .tl0) (t .th0)
+      low = moved-none (counts0 t l) (timer0Mode t) (t .tl0) (t .th0) f
 
-      one : moved 0 (moves1 t l) (mode1 t) (t .tl1) (t .th1) ≡ hold (t .tl1) (t .th1)
-      one = moved-none (moves1 t l) (mode1 t) (t .tl1) (t .th1) g
+      one : moved 0 (moves1 t l) (timer1Mode t) (t .tl1) (t .th1) ≡ hold (t .tl1) (t .th1)
+      one = moved-none (moves1 t l) (timer1Mode t) (t .tl1) (t .th1) g
 
   pub timers-more : (m : ℕ) → strideTimers m l (strideTimers 1 l t) ≡ strideTimers (suc m) l t
   unfolding strideTimers counts0 counts1 countsHigh0 moves1
   timers-more m =
       timers-path refl refl
-      (low-more m (counts0 t l) (countsHigh0 t) (mode0 t) (t .tl0) (t .th0) (high-mode t))
-      (ap (λ (c : Count). c .tl) (moved-more (moves1 t l) (mode1 t) (t .tl1) (t .th1) m))
-      (high-more m (counts0 t l) (countsHigh0 t) (mode0 t) (t .tl0) (t .th0))
-      (ap (λ (c : Count). c .th) (moved-more (moves1 t l) (mode1 t) (t .tl1) (t .th1) m))
+      (low-more m (counts0 t l) (countsHigh0 t) (timer0Mode t) (t .tl0) (t .th0) (high-mode t))
+      (ap (λ (c : Count). c .tl) (moved-more (moves1 t l) (timer1Mode t) (t .tl1) (t .th1) m))
+      (high-more m (counts0 t l) (countsHigh0 t) (timer0Mode t) (t .tl0) (t .th0))
+      (ap (λ (c : Count). c .th) (moved-more (moves1 t l) (timer1Mode t) (t .tl1) (t .th1) m))
       refl refl
 
   -- the room after a stride
   pub timers-room : (m : ℕ) → roomTimers l (strideTimers m l t)
-      ≡ min (roomOf (counts0 t l) (leftIn (mode0 t) (t .tl0) (t .th0) - m))
-      (min (roomOf (countsHigh0 t) (left 8 (t .th0) - m)) (roomOf (moves1 t l) (leftIn (mode1 t) (t .tl1) (t .th1) - m)))
+      ≡ min (roomOf (counts0 t l) (leftIn (timer0Mode t) (t .tl0) (t .th0) - m))
+      (min (roomOf (countsHigh0 t) (left 8 (t .th0) - m)) (roomOf (moves1 t l) (leftIn (timer1Mode t) (t .tl1) (t .th1) - m)))
   unfolding roomTimers strideTimers counts0 counts1 countsHigh0 moves1
   timers-room m =
-      let low = low-room m (counts0 t l) (countsHigh0 t) (mode0 t) (t .tl0) (t .th0) (high-mode t) in
-      let high = high-room m (countsHigh0 t) (t .th0) (moved m (counts0 t l) (mode0 t) (t .tl0) (t .th0) .th) in
-      let one = moved-room (moves1 t l) (mode1 t) (t .tl1) (t .th1) m in
+      let low = low-room m (counts0 t l) (countsHigh0 t) (timer0Mode t) (t .tl0) (t .th0) (high-mode t) in
+      let high = high-room m (countsHigh0 t) (t .th0) (moved m (counts0 t l) (timer0Mode t) (t .tl0) (t .th0) .th) in
+      let one = moved-room (moves1 t l) (timer1Mode t) (t .tl1) (t .th1) m in
       λ i. min (low i) (min (high i) (one i))
 
   -- room for k cycles after m: room for k after a stride of m
@@ -216,8 +217,8 @@ module _ (l : ℕ) (t : Timers) where
   -- TL0 and TL1 stay bytes
   pub timers-low0 : (m : ℕ) → t .tl0 < 256 → m ≤ roomTimers l t → strideTimers m l t .tl0 < 256
   unfolding strideTimers
-  timers-low0 m f h = moved-below (counts0 t l) (mode0 t) (t .tl0) (t .th0) m f (room-low m l t h)
+  timers-low0 m f h = moved-below (counts0 t l) (timer0Mode t) (t .tl0) (t .th0) m f (room-low m l t h)
 
   pub timers-low1 : (m : ℕ) → t .tl1 < 256 → m ≤ roomTimers l t → strideTimers m l t .tl1 < 256
   unfolding strideTimers
-  timers-low1 m f h = moved-below (moves1 t l) (mode1 t) (t .tl1) (t .th1) m f (room-one m l t h)
+  timers-low1 m f h = moved-below (moves1 t l) (timer1Mode t) (t .tl1) (t .th1) m f (room-one m l t h)

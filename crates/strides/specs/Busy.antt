@@ -23,7 +23,7 @@ same (a ∷ r) (b ∷ s) = eqb a b && same r s
 -- a timer overflowed: Timer 0, TH0 in mode 3, Timer 1 or Timer 2
 abbrev pub overflowed : TimersCounted → Timer2Counted → Bool
 overflowed t u =
-    (not (eqb (t .tl0) 0) || not (eqb (t .th0) 0)) || (not (eqb (t .timer1) 0) || not (eqb (u .overflows) 0))
+    (not (eqb (t .overflow0) 0) || not (eqb (t .«overflow_th0») 0)) || (not (eqb (t .overflow1) 0) || not (eqb (u .overflows) 0))
 
 -- a timer overflows in the next cycle
 unfoldable pub overflows : ℕ → Device → Bool

@@ -12,7 +12,7 @@ use Rattle.machine.specs.Bits.{bit}
 use Rattle.machine.specs.Registers.{RXD, INT0, INT1, IT0, IT1, IE0, IE1, SMOD, REN, TR2, C/T2}
 use Rattle.machine.specs.Record.{serialMode, pinsOf, levelsOf}
 use Rattle.machine.specs.Counting.{pair13, pair16, hold}
-use Rattle.machine.specs.Timers.{mode0, mode1, counts0, counts1, countsHigh0}
+use Rattle.machine.specs.Timers.{timer0Mode, timer1Mode, counts0, counts1, countsHigh0}
 use Rattle.machine.specs.Timer2.{count2, withCount2, baudRate}
 use Rattle.machine.specs.Serial.{withSample}
 use Rattle.machine.specs.Interrupts.{seenOf}
@@ -68,13 +68,13 @@ leftIn mode tl th = cond (eqb mode 0) (left 13 (pair13 tl th)) (cond (eqb mode 1
 
 -- Timer 1 in mode 3 holds
 unfoldable pub moves1 : Timers → ℕ → Bool
-moves1 t l = counts1 t l && not (eqb (mode1 t) 3)
+moves1 t l = counts1 t l && not (eqb (timer1Mode t) 3)
 
 -- Timer 0, TH0 in mode 3, Timer 1
 unfoldable pub roomTimers : ℕ → Timers → ℕ
 roomTimers l t =
-    min (roomOf (counts0 t l) (leftIn (mode0 t) (t .tl0) (t .th0)))
-    (min (roomOf (countsHigh0 t) (left 8 (t .th0))) (roomOf (moves1 t l) (leftIn (mode1 t) (t .tl1) (t .th1))))
+    min (roomOf (counts0 t l) (leftIn (timer0Mode t) (t .tl0) (t .th0)))
+    (min (roomOf (countsHigh0 t) (left 8 (t .th0))) (roomOf (moves1 t l) (leftIn (timer1Mode t) (t .tl1) (t .th1))))
 
 -- Timer 2 as a timer
 unfoldable pub moves2 : Timer2 → Bool
@@ -115,8 +115,8 @@ moved m counts mode tl th = cond counts (movedIn m mode tl th) (hold tl th)
 -- Timers 0 and 1; in mode 3 TH0 counts apart
 unfoldable pub strideTimers : ℕ → ℕ → Timers → Timers
 strideTimers m l t =
-    let low = moved m (counts0 t l) (mode0 t) (t .tl0) (t .th0) in
-    let one = moved m (moves1 t l) (mode1 t) (t .tl1) (t .th1) in
+    let low = moved m (counts0 t l) (timer0Mode t) (t .tl0) (t .th0) in
+    let one = moved m (moves1 t l) (timer1Mode t) (t .tl1) (t .th1) in
     record {
       tcon = t .tcon;
       tmod = t .tmod;

@@ -7,49 +7,49 @@ use native.Mathlib.Omega.{arith}
 use lib.Dec.{eqb}
 use lib.Bits.{bitOr}
 use Rattle.machine.specs.Bits.{setBit}
-use Rattle.machine.specs.declared.Laps.{Laps}
+use Rattle.machine.specs.declared.Counted16.{Counted16}
 use Rattle.machine.specs.declared.Timer2.{Timer2}
 use Rattle.machine.specs.Timers.{flagged}
-use Rattle.machine.specs.Timer2.{lap, laps, rcap2, count2, withCount2, withRcap2}
+use Rattle.machine.specs.Timer2.{countOnce, countTimes, rcap2, count2, withCount2, withRcap2}
 use Rattle.laws.proofs.Bits.{or-bit}
-use Rattle.laws.proofs.Counting.{nextOr-up, nextOr-over, overflow-up, overflow-over, countsOr-up, overflowsOr-up, laps-are}
+use Rattle.laws.proofs.Counting.{nextOr-up, nextOr-over, overflow-up, overflow-over, countsOr-up, overflowsOr-up, countTimes-are}
 
 -- a count and the overflows so far
-abbrev pub at : ℕ → ℕ → Laps
+abbrev pub at : ℕ → ℕ → Counted16
 at n o = record { count = n; overflows = o }
 
-pub laps-eq : {a b : Laps} → a .count ≡ b .count → a .overflows ≡ b .overflows → a ≡ b
-laps-eq p q = λ i. record { count = p i; overflows = q i }
+pub countTimes-eq : {a b : Counted16} → a .count ≡ b .count → a .overflows ≡ b .overflows → a ≡ b
+countTimes-eq p q = λ i. record { count = p i; overflows = q i }
 
 -- m counts that stay at most FFFF add m
-pub laps-on : (m r n o : ℕ) → n + m < 65536 → laps m r (at n o) ≡ at (n + m) o
-laps-on m r n o h =
-    laps-are m r n o ∙ laps-eq (countsOr-up m 16 r n h) (ap (λ (k : ℕ). o + k) (overflowsOr-up m 16 r n h) ∙ add-zero o)
+pub countTimes-on : (m r n o : ℕ) → n + m < 65536 → countTimes m r (at n o) ≡ at (n + m) o
+countTimes-on m r n o h =
+    countTimes-are m r n o ∙ countTimes-eq (countsOr-up m 16 r n h) (ap (λ (k : ℕ). o + k) (overflowsOr-up m 16 r n h) ∙ add-zero o)
 
 -- a count below FFFF, and one at FFFF
-lap-on : (r n o : ℕ) → n + 1 < 65536 → lap r (at n o) ≡ at (n + 1) o
-unfolding lap
-lap-on r n o h = laps-eq (nextOr-up 16 r n h) (ap (λ (k : ℕ). o + k) (overflow-up 16 n h) ∙ add-zero o)
+countOnce-on : (r n o : ℕ) → n + 1 < 65536 → countOnce r (at n o) ≡ at (n + 1) o
+unfolding countOnce
+countOnce-on r n o h = countTimes-eq (nextOr-up 16 r n h) (ap (λ (k : ℕ). o + k) (overflow-up 16 n h) ∙ add-zero o)
 
-lap-over : (r n o : ℕ) → n + 1 ≡ 65536 → lap r (at n o) ≡ at r (o + 1)
-unfolding lap
-lap-over r n o h = laps-eq (nextOr-over 16 r n h) (ap (λ (k : ℕ). o + k) (overflow-over 16 n h))
+countOnce-over : (r n o : ℕ) → n + 1 ≡ 65536 → countOnce r (at n o) ≡ at r (o + 1)
+unfolding countOnce
+countOnce-over r n o h = countTimes-eq (nextOr-over 16 r n h) (ap (λ (k : ℕ). o + k) (overflow-over 16 n h))
 
 -- with more counts left than FFFF is away, those past the overflow go on from the reload value
-over : (d m r n o : ℕ) → n + d ≡ 65535 → laps (d + suc m) r (at n o) ≡ laps m r (at r (o + 1))
-unfolding laps
+over : (d m r n o : ℕ) → n + d ≡ 65535 → countTimes (d + suc m) r (at n o) ≡ countTimes m r (at r (o + 1))
+unfolding countTimes
 over zero m r n o h =
     let e : 0 + suc m ≡ suc m = omega arith in
-    ap (λ (k : ℕ). laps k r (at n o)) e ∙ ap (laps m r) (lap-over r n o (omega arith))
+    ap (λ (k : ℕ). countTimes k r (at n o)) e ∙ ap (countTimes m r) (countOnce-over r n o (omega arith))
 over (suc d) m r n o h =
     let e : suc d + suc m ≡ suc (d + suc m) = omega arith in
-    ap (λ (k : ℕ). laps k r (at n o)) e ∙ ap (laps (d + suc m) r) (lap-on r n o (omega arith))
+    ap (λ (k : ℕ). countTimes k r (at n o)) e ∙ ap (countTimes (d + suc m) r) (countOnce-on r n o (omega arith))
     ∙ over d m r (n + 1) o (omega arith)
 
-pub laps-over : (l r n o : ℕ) → n < 65536 → 65535 - n < l → laps l r (at n o) ≡ laps (l - (65535 - n) - 1) r (at r (o + 1))
-laps-over l r n o h g =
+pub countTimes-over : (l r n o : ℕ) → n < 65536 → 65535 - n < l → countTimes l r (at n o) ≡ countTimes (l - (65535 - n) - 1) r (at r (o + 1))
+countTimes-over l r n o h g =
     let e : l ≡ (65535 - n) + suc (l - (65535 - n) - 1) = omega arith in
-    ap (λ (k : ℕ). laps k r (at n o)) e ∙ over (65535 - n) (l - (65535 - n) - 1) r n o (omega arith)
+    ap (λ (k : ℕ). countTimes k r (at n o)) e ∙ over (65535 - n) (l - (65535 - n) - 1) r n o (omega arith)
 
 -- a flag set where b holds, by a mask
 pub flag-by-mask : (b : Bool) (k x : ℕ) → cond b (bitOr x (2 ^ k)) x ≡ flagged k (cond b 1 0) x

@@ -5,15 +5,16 @@ use Prim.Native.Nat.{ℕ, _+_, _*_, _/_, _%_, _<_, _≤_}
 use native.Mathlib.Nat.{le-trans}
 use native.Mathlib.Omega.{arith}
 use lib.Dec.{eqb, lit<, lit≤}
-use Rattle.laws.proofs.Bits.{set-lt}
-use Rattle.laws.proofs.Counting.{countsOr-lt, overflowsOr-le, laps-are}
+use Rattle.laws.proofs.Choices.{chosen}
+use Rattle.laws.proofs.Bits.{set-lt, flagged-lt}
+use Rattle.laws.proofs.Counting.{countsOr-lt, overflowsOr-le, countTimes-are}
 use Rattle.machine.specs.declared.Timer2.{Timer2}
 use Rattle.machine.specs.declared.Timer2Counted.{Timer2Counted}
-use Rattle.machine.specs.declared.Laps.{Laps}
+use Rattle.machine.specs.declared.Counted16.{Counted16}
 use Rattle.machine.specs.Bits.{bit, setBit}
 use Rattle.machine.specs.Registers.{TF2, EXF2, C/T2, TR2}
 use Rattle.machine.specs.Timers.{flagged}
-use Rattle.machine.specs.Timer2.{rcap2, count2, withT2con, withCount2, withRcap2, laps, baudRate, countsOf2, heedsT2EX, captures, counted2, baudStep, copied2, captureStep, timer2Step}
+use Rattle.machine.specs.Timer2.{rcap2, count2, withT2con, withCount2, withRcap2, countTimes, baudRate, countsOf2, heedsT2EX, captures, counted2, baudStep, copied2, captureStep, timer2Step}
 
 -- the registers are bytes
 pub record Bytes (t : Timer2) : Type 0 where
@@ -30,26 +31,17 @@ pub record Kept (t : Timer2) (r : Timer2Counted) : Type 0 where
   pub overflows : r .overflows ≤ 6
   pub tf2 : r .tf2 ≤ 1
 
--- a choice has what both have
-chosen : {A : Type 0} (P : A → Type 0) (b : Bool) (x y : A) → P x → P y → P (cond b x y)
-chosen P true x y h l = h
-chosen P false x y h l = l
-
 abbrev Byte : ℕ → Type 0
 Byte n = n < 256
 
-flagged-byte : (k o x : ℕ) → k < 8 → x < 256 → flagged k o x < 256
-unfolding flagged
-flagged-byte k o x h l = chosen Byte (eqb o 1) _ _ (set-lt 8 k x h l) l
-
 -- the counts of a cycle leave 16 bits, and no count overflows twice
-record Few (most : ℕ) (s : Laps) : Type 0 where
+record Few (most : ℕ) (s : Counted16) : Type 0 where
   count : s .count < 65536
   overflows : s .overflows ≤ most
 
-laps-few : (n most reload c : ℕ) → n ≤ most → reload < 65536 → c < 65536 → Few most (laps n reload (record { count = c; overflows = 0 }))
-laps-few n most reload c m r h =
-    rw (laps-are n reload c 0)
+countTimes-few : (n most reload c : ℕ) → n ≤ most → reload < 65536 → c < 65536 → Few most (countTimes n reload (record { count = c; overflows = 0 }))
+countTimes-few n most reload c m r h =
+    rw (countTimes-are n reload c 0)
     (record { count = countsOr-lt n 16 reload c r h; overflows = omega (arith, overflowsOr-le n 16 reload c r h) })
 
 counts-few : (each : ℕ) (t : Timer2) → 1 ≤ each → countsOf2 each t ≤ each
@@ -61,7 +53,7 @@ counts-few each t h =
 counted-few : (each reload : ℕ) (t : Timer2) → 1 ≤ each → reload < 65536 → Bytes t → Few each (counted2 each reload t)
 unfolding counted2
 counted-few each reload t h r b =
-    laps-few (countsOf2 each t) each reload (count2 t) (counts-few each t h) r (omega arith)
+    countTimes-few (countsOf2 each t) each reload (count2 t) (counts-few each t h) r (omega arith)
 
 with-count : (n : ℕ) (t : Timer2) → n < 65536 → Bytes t → Bytes (withCount2 n t)
 with-count n t h b =
@@ -79,7 +71,7 @@ unfolding baudStep
 baud-kept t fell b =
     let f = counted-few 6 (rcap2 t) t (lit≤ tt) (omega arith) b in
     record {
-      bytes = with-t2con _ _ (flagged-byte EXF2 (cond (heedsT2EX t fell) 1 0) (t .t2con) (lit< tt) (b .t2con)) (with-count _ t (f .count) b);
+      bytes = with-t2con _ _ (flagged-lt 8 EXF2 (cond (heedsT2EX t fell) 1 0) (t .t2con) (lit< tt) (b .t2con)) (with-count _ t (f .count) b);
       due2 = refl;
       overflows = f .overflows;
       tf2 = lit≤ tt;
@@ -103,7 +95,7 @@ capture-kept t fell b =
     let f = counted-few 1 reload t (lit≤ tt) (chosen (λ (n : ℕ). n < 65536) (captures t) 0 (rcap2 t) (lit< tt) (omega arith)) b in
     let s = counted2 1 reload t in
     let x = flagged TF2 (s .overflows) (t .t2con) in
-    let k : x < 256 = flagged-byte TF2 (s .overflows) (t .t2con) (lit< tt) (b .t2con) in
+    let k : x < 256 = flagged-lt 8 TF2 (s .overflows) (t .t2con) (lit< tt) (b .t2con) in
     let u = withT2con x (withCount2 (s .count) t) in
     let ub : Bytes u = with-t2con x _ k (with-count (s .count) t (f .count) b) in
     let v = withT2con (setBit EXF2 x) u in

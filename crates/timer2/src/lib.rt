@@ -1,17 +1,18 @@
 // Timer 2: step 3 of a cycle. Several counts in a cycle are made overflow by overflow, not one by one.
 ghost use mathlib.Core.Path.{_≡_};
-ghost use Rattle.machine.specs.Counting as Counting;
 ghost use Rattle.machine.specs.Timer2 as Two;
-use machine::Laps;
+use laws::pair16;
+use machine::Counted16;
 use machine::Timer2;
 use machine::Timer2Counted;
-
-// The 16 bits of a register pair.
-fn pair16(tl: u8, th: u8) -> u16
-    ensures { λ r. ⌜ r ≡ Counting.pair16 tl th ⌝ }
-{
-    ((th as u16) << 8) | (tl as u16)
-}
+use machine::places::CPRL2;
+use machine::places::CT2;
+use machine::places::EXEN2;
+use machine::places::EXF2;
+use machine::places::RCLK;
+use machine::places::TCLK;
+use machine::places::TF2;
+use machine::places::TR2;
 
 // Timer 2 with another count.
 fn with_count2(n: u16, t: Timer2) -> Timer2
@@ -27,20 +28,20 @@ fn with_count2(n: u16, t: Timer2) -> Timer2
     }
 }
 
-// n counts in turn, each overflow giving the reload value: as long as the counts left reach past FFFF, on to the next overflow.
-fn laps(n: u8, reload: u16, from: u16) -> Laps
-    ensures { λ r. ⌜ r ≡ Two.laps n reload (record { count = from; overflows = 0 }) ⌝ }
+// n counts in turn, each overflow giving the reload value: as long as the sum wraps, those past the overflow are left.
+fn count_times(n: u8, reload: u16, from: u16) -> Counted16
+    ensures { λ r. ⌜ r ≡ Two.countTimes n reload (record { count = from; overflows = 0 }) ⌝ }
 {
     let mut left = n as u16;
-    let mut count = from;
+    let mut count = std::num::wrapping_add_u16(from, left);
     let mut overflows: u8 = 0;
-    while 0xffff - count < left {
-        left = left - (0xffff - count) - 1;
-        count = reload;
+    while count < left {
+        left = count;
+        count = std::num::wrapping_add_u16(reload, left);
         overflows += 1;
     }
-    Laps {
-        count: count + left,
+    Counted16 {
+        count: count,
         overflows: overflows,
     }
 }
@@ -49,7 +50,7 @@ fn laps(n: u8, reload: u16, from: u16) -> Laps
 pub fn baud_rate(t: Timer2) -> bool
     ensures { λ r. ⌜ r ≡ Two.baudRate t ⌝ }
 {
-    (((t.t2con >> 5) & 1) == 1) | (((t.t2con >> 4) & 1) == 1)
+    (((t.t2con >> RCLK) & 1) == 1) | (((t.t2con >> TCLK) & 1) == 1)
 }
 
 // The counts of this cycle: one as a counter on its due mark, as a timer `each`.
@@ -57,28 +58,28 @@ pub fn counts_of2(each: u8, t: Timer2) -> u8
     ensures { λ r. ⌜ r ≡ Two.countsOf2 each t ⌝ }
 {
     let counted = laws::picked(t.due2 == 1, 1, 0);
-    laws::picked(((t.t2con >> 1) & 1) == 0, each, counted)
+    laws::picked(((t.t2con >> CT2) & 1) == 0, each, counted)
 }
 
 // T2EX falling with EXEN2 = 1.
 fn heeds_t2ex(t: Timer2, fell: u8) -> bool
     ensures { λ r. ⌜ r ≡ Two.heedsT2EX t fell ⌝ }
 {
-    (fell == 1) & (((t.t2con >> 3) & 1) == 1)
+    (fell == 1) & (((t.t2con >> EXEN2) & 1) == 1)
 }
 
 // Capture, and not auto-reload.
 fn captures(t: Timer2) -> bool
     ensures { λ r. ⌜ r ≡ Two.captures t ⌝ }
 {
-    (t.t2con & 1) == 1
+    ((t.t2con >> CPRL2) & 1) == 1
 }
 
 // The counts of this cycle, in turn.
-fn counted2(each: u8, reload: u16, t: Timer2) -> Laps
+fn counted2(each: u8, reload: u16, t: Timer2) -> Counted16
     ensures { λ r. ⌜ r ≡ Two.counted2 each reload t ⌝ }
 {
-    laps(counts_of2(each, t), reload, pair16(t.tl2, t.th2))
+    count_times(counts_of2(each, t), reload, pair16(t.tl2, t.th2))
 }
 
 // As a baud rate generator: six counts as a timer, TF2 stays, and T2EX sets EXF2 only.
@@ -87,7 +88,7 @@ fn baud_step(t: Timer2, fell: u8) -> Timer2Counted
 {
     let s = counted2(6, pair16(t.rcap2l, t.rcap2h), t);
     let mut u = with_count2(s.count, t);
-    u.t2con = laws::picked(heeds_t2ex(t, fell), t.t2con | 0x40, t.t2con);
+    u.t2con = laws::picked(heeds_t2ex(t, fell), t.t2con | (1 << EXF2), t.t2con);
     Timer2Counted {
         timer2: u,
         overflows: s.overflows,
@@ -119,9 +120,9 @@ fn capture_step(t: Timer2, fell: u8) -> Timer2Counted
     let reload = laws::picked16(captures(t), 0, pair16(t.rcap2l, t.rcap2h));
     let s = counted2(1, reload, t);
     let mut u = with_count2(s.count, t);
-    u.t2con = laws::picked(s.overflows == 1, t.t2con | 0x80, t.t2con);
+    u.t2con = laws::picked(s.overflows == 1, t.t2con | (1 << TF2), t.t2con);
     if heeds_t2ex(t, fell) {
-        u.t2con = u.t2con | 0x40;
+        u.t2con = u.t2con | (1 << EXF2);
         u = copied2(u);
     }
     Timer2Counted {
@@ -135,7 +136,7 @@ fn capture_step(t: Timer2, fell: u8) -> Timer2Counted
 pub fn timer2_step(t: Timer2, fell: u8) -> Timer2Counted
     ensures { λ r. ⌜ r ≡ Two.timer2Step t fell ⌝ }
 {
-    if ((t.t2con >> 2) & 1) == 1 {
+    if ((t.t2con >> TR2) & 1) == 1 {
         if baud_rate(t) {
             baud_step(t, fell)
         } else {

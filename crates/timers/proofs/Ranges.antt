@@ -4,9 +4,10 @@ use mathlib.Core.Bool.{Bool, true, false, cond}
 use Prim.Native.Nat.{ℕ, _<_, _≤_}
 use native.Mathlib.Omega.{arith}
 use lib.Dec.{eqb}
-use Rattle.laws.proofs.Bits.{set-lt}
+use Rattle.laws.proofs.Choices.{chosen}
+use Rattle.laws.proofs.Bits.{flagged-lt}
 use Rattle.machine.specs.Counting.{overflow, count13, count16, reload8, count8, hold}
-use Rattle.machine.specs.Timers.{mode0, mode1, countIn, flagged, counts0, counts1, countsHigh0, pair0, high0, highOverflow0, pair1, timerFlags, timersStep}
+use Rattle.machine.specs.Timers.{timer0Mode, timer1Mode, countIn, flagged, counts0, counts1, countsHigh0, pair0, high0, highOverflow0, pair1, timerFlags, timersStep}
 use Rattle.machine.specs.declared.Count.{Count}
 use Rattle.machine.specs.declared.Timers.{Timers}
 use Rattle.machine.specs.declared.TimersCounted.{TimersCounted}
@@ -26,25 +27,15 @@ pub record Kept (t : Timers) (r : TimersCounted) : Type 0 where
   pub tmod : r .timers .tmod ≡ t .tmod
   pub due0 : r .timers .due0 ≡ t .due0
   pub due1 : r .timers .due1 ≡ t .due1
-  pub low : r .tl0 ≤ 1
-  pub high : r .th0 ≤ 1
-  pub one : r .timer1 ≤ 1
+  pub low : r .overflow0 ≤ 1
+  pub high : r .«overflow_th0» ≤ 1
+  pub one : r .overflow1 ≤ 1
 
 -- a register pair after a count
 record Counted (n : Count) : Type 0 where
   tl : n .tl < 256
   th : n .th < 256
   overflow : n .overflow ≤ 1
-
--- what holds of both holds of either
-either : {A : Type 0} (P : A → Type 0) (b : Bool) {x y : A} → P x → P y → P (cond b x y)
-either P true p q = p
-either P false p q = q
-
--- a byte with a flag set is a byte
-pub flagged-below : (k o x : ℕ) → k < 8 → x < 256 → flagged k o x < 256
-unfolding flagged
-flagged-below k o x h l = either (λ (n : ℕ). n < 256) (eqb o 1) (set-lt 8 k x h l) l
 
 module _ (tl th : ℕ) (l : tl < 256) (h : th < 256) where
   holding : Counted (hold tl th)
@@ -66,13 +57,13 @@ module _ (tl th : ℕ) (l : tl < 256) (h : th < 256) where
   reloading : Counted (reload8 tl th)
   unfolding reload8
   reloading =
-      record { tl = either (λ (n : ℕ). n < 256) (eqb (overflow 8 tl) 1) h (omega arith); th = h; overflow = omega arith }
+      record { tl = chosen (λ (n : ℕ). n < 256) (eqb (overflow 8 tl) 1) _ _ h (omega arith); th = h; overflow = omega arith }
 
   counting : (mode : ℕ) (three : Count) → Counted three → Counted (countIn mode three tl th)
   unfolding countIn
   counting mode three p =
-      either Counted (eqb mode 0) counting13
-      (either Counted (eqb mode 1) counting16 (either Counted (eqb mode 2) reloading p))
+      chosen Counted (eqb mode 0) _ _ counting13
+      (chosen Counted (eqb mode 1) _ _ counting16 (chosen Counted (eqb mode 2) _ _ reloading p))
 
 module _ (t : Timers) (b : Bytes t) where
   pair0-counted : (pins : ℕ) → Counted (pair0 t pins)
@@ -80,8 +71,8 @@ module _ (t : Timers) (b : Bytes t) where
   pair0-counted pins =
       let tl = t .tl0 in
       let th = t .th0 in
-      either Counted (counts0 t pins)
-      (counting tl th (b .tl0) (b .th0) (mode0 t) (count8 tl th) (counting8 tl th (b .tl0) (b .th0)))
+      chosen Counted (counts0 t pins) _ _
+      (counting tl th (b .tl0) (b .th0) (timer0Mode t) (count8 tl th) (counting8 tl th (b .tl0) (b .th0)))
       (holding tl th (b .tl0) (b .th0))
 
   pair1-counted : (pins : ℕ) → Counted (pair1 t pins)
@@ -90,21 +81,21 @@ module _ (t : Timers) (b : Bytes t) where
       let tl = t .tl1 in
       let th = t .th1 in
       let held = holding tl th (b .tl1) (b .th1) in
-      either Counted (counts1 t pins) (counting tl th (b .tl1) (b .th1) (mode1 t) (hold tl th) held) held
+      chosen Counted (counts1 t pins) _ _ (counting tl th (b .tl1) (b .th1) (timer1Mode t) (hold tl th) held) held
 
   high-below : (th : ℕ) → th < 256 → high0 t th < 256
   unfolding high0
-  high-below th h = either (λ (n : ℕ). n < 256) (countsHigh0 t) (omega arith) h
+  high-below th h = chosen (λ (n : ℕ). n < 256) (countsHigh0 t) _ _ (omega arith) h
 
   high-overflow : (th : ℕ) → th < 256 → highOverflow0 t th ≤ 1
   unfolding highOverflow0
-  high-overflow th h = either (λ (n : ℕ). n ≤ 1) (countsHigh0 t) (omega arith) (omega arith)
+  high-overflow th h = chosen (λ (n : ℕ). n ≤ 1) (countsHigh0 t) _ _ (omega arith) (omega arith)
 
   flags-below : (low high one : ℕ) → timerFlags t low high one < 256
   unfolding timerFlags
   flags-below low high one =
-      flagged-below 7 (cond (eqb (mode0 t) 3) high one) (flagged 5 low (t .tcon)) (omega arith)
-      (flagged-below 5 low (t .tcon) (omega arith) (b .tcon))
+      flagged-lt 8 7 (cond (eqb (timer0Mode t) 3) high one) (flagged 5 low (t .tcon)) (omega arith)
+      (flagged-lt 8 5 low (t .tcon) (omega arith) (b .tcon))
 
   pub step-kept : (pins : ℕ) → Kept t (timersStep t pins)
   unfolding timersStep

@@ -6,6 +6,18 @@ ghost use Rattle.machine.specs.Timers as Step;
 use machine::Count;
 use machine::Timers;
 use machine::TimersCounted;
+use machine::places::CT0;
+use machine::places::CT1;
+use machine::places::GATE0;
+use machine::places::GATE1;
+use machine::places::INT0;
+use machine::places::INT1;
+use machine::places::MODE0;
+use machine::places::MODE1;
+use machine::places::TF0;
+use machine::places::TF1;
+use machine::places::TR0;
+use machine::places::TR1;
 
 // 1 where a count of 8 bits goes from all ones to zero.
 fn overflow8(n: u8) -> u8
@@ -102,23 +114,32 @@ pub fn clocked(counter: u8, due: u8) -> bool
 pub fn counts0(t: Timers, pins: u8) -> bool
     ensures { λ r. ⌜ r ≡ Step.counts0 t pins ⌝ }
 {
-    enabled((t.tcon >> 4) & 1, (t.tmod >> 3) & 1, (pins >> 1) & 1)
-        & clocked((t.tmod >> 2) & 1, t.due0)
+    enabled(
+        (t.tcon >> TR0) & 1,
+        (t.tmod >> GATE0) & 1,
+        (pins >> INT0) & 1,
+    )
+        & clocked((t.tmod >> CT0) & 1, t.due0)
 }
 
 // Timer 1 counts in this cycle: with Timer 0 in mode 3 it is always enabled.
 pub fn counts1(t: Timers, pins: u8) -> bool
     ensures { λ r. ⌜ r ≡ Step.counts1 t pins ⌝ }
 {
-    (((t.tmod & 3) == 3) | enabled((t.tcon >> 6) & 1, (t.tmod >> 7) & 1, (pins >> 2) & 1))
-        & clocked((t.tmod >> 6) & 1, t.due1)
+    ((((t.tmod >> MODE0) & 3) == 3)
+        | enabled(
+            (t.tcon >> TR1) & 1,
+            (t.tmod >> GATE1) & 1,
+            (pins >> INT1) & 1,
+        ))
+        & clocked((t.tmod >> CT1) & 1, t.due1)
 }
 
 // TH0 in mode 3 counts cycles while TR1 = 1.
 pub fn counts_high0(t: Timers) -> bool
     ensures { λ r. ⌜ r ≡ Step.countsHigh0 t ⌝ }
 {
-    ((t.tmod & 3) == 3) & (((t.tcon >> 6) & 1) == 1)
+    (((t.tmod >> MODE0) & 3) == 3) & (((t.tcon >> TR1) & 1) == 1)
 }
 
 // Timer 0's pair after this cycle's count.
@@ -126,7 +147,7 @@ fn pair0(t: Timers, pins: u8) -> Count
     ensures { λ r. ⌜ r ≡ Step.pair0 t pins ⌝ }
 {
     if counts0(t, pins) {
-        count_in(t.tmod & 3, count8(t.tl0, t.th0), t.tl0, t.th0)
+        count_in((t.tmod >> MODE0) & 3, count8(t.tl0, t.th0), t.tl0, t.th0)
     } else {
         hold(t.tl0, t.th0)
     }
@@ -151,7 +172,7 @@ fn pair1(t: Timers, pins: u8) -> Count
     ensures { λ r. ⌜ r ≡ Step.pair1 t pins ⌝ }
 {
     if counts1(t, pins) {
-        count_in((t.tmod >> 4) & 3, hold(t.tl1, t.th1), t.tl1, t.th1)
+        count_in((t.tmod >> MODE1) & 3, hold(t.tl1, t.th1), t.tl1, t.th1)
     } else {
         hold(t.tl1, t.th1)
     }
@@ -169,8 +190,8 @@ fn flagged(k: u8, overflow: u8, x: u8) -> u8
 fn timer_flags(t: Timers, low: u8, high: u8, one: u8) -> u8
     ensures { λ r. ⌜ r ≡ Step.timerFlags t low high one ⌝ }
 {
-    let over = laws::picked((t.tmod & 3) == 3, high, one);
-    flagged(7, over, flagged(5, low, t.tcon))
+    let over = laws::picked(((t.tmod >> MODE0) & 3) == 3, high, one);
+    flagged(TF1, over, flagged(TF0, low, t.tcon))
 }
 
 // Step 2, with the three overflows; Timer 1's clocks the serial port.
@@ -188,8 +209,8 @@ pub fn timers_step(t: Timers, pins: u8) -> TimersCounted
     u.th1 = one.th;
     TimersCounted {
         timers: u,
-        tl0: low.overflow,
-        th0: high,
-        timer1: one.overflow,
+        overflow0: low.overflow,
+        overflow_th0: high,
+        overflow1: one.overflow,
     }
 }

@@ -1,3 +1,4 @@
+-- `cycle` is the machine's answer: the cycle by the contract of `cycle_once`, the line of a device that stays accepted.
 use mathlib.Core.Path.{_≡_, refl, sym, ap, _∙_}
 use borrow.Author.Tests.{eq-eqb, ne-eqb, lt-ltb, le-ltb}
 use Prim.Native.Nat.{ℕ, _≤_}
@@ -15,39 +16,32 @@ use Rattle.cycle.proofs.cycle_once.Reads as cycle-once-reads
 use Rattle.registers.proofs.accepts.Reads as accepts-reads
 use Rattle.serial.proofs.line_of.Reads as line-of-reads
 
--- src/lib.rt:72:8
 accepts-requires : tie.Need-accepts-requires
 accepts-requires c κs = search needs
 
--- src/lib.rt:74:17
 cycle-once-requires : tie.Need-cycle-once-requires
 cycle-once-requires c κs = sym (c .before .before .accepts .ensures) ∙ c .before .if1 .taken
 
--- src/lib.rt:85:27
 line-of-requires : tie.Need-line-of-requires
 line-of-requires c κs = let o = c .before .before in
     let a = o .before .before .before in
     subst (λ (e : Once). e .device .serial .send .position ≤ 11) (sym (o .cycle-once .ensures)) (sends-within (a .before .args .pins) (a .before .args .d) (sym (a .accepts .ensures) ∙ o .before .before .if1 .taken))
 
--- src/lib.rt:69:1
 returns : tie.Need-returns
 unfolding cycleAnswer
 returns c = let o = c .before in
     simp (sym (o .before .before .before .accepts .ensures) ∙ o .before .before .if1 .taken, lt-ltb _ _ (o .before .if2 .taken), sym (ap (λ (e : Once). e .twice) (o .cycle-once .ensures)) ∙ c .if3 .taken)
 
--- src/lib.rt:69:1
 returns-2 : tie.Need-returns-2
 unfolding cycleAnswer
 returns-2 c = let i = c .before .before in
     let o = i .before in
     simp (sym (o .before .before .before .accepts .ensures) ∙ o .before .before .if1 .taken, lt-ltb _ _ (o .before .if2 .taken), sym (ap (λ (e : Once). e .twice) (o .cycle-once .ensures)) ∙ i .if3 .left, c .line-of .ensures, o .cycle-once .ensures)
 
--- src/lib.rt:69:1
 returns-3 : tie.Need-returns-3
 unfolding cycleAnswer
 returns-3 c = simp (sym (c .before .before .accepts .ensures) ∙ c .before .if1 .taken, le-ltb _ _ (c .if2 .left))
 
--- src/lib.rt:69:1
 returns-4 : tie.Need-returns-4
 unfolding cycleAnswer
 returns-4 c = simp (sym (c .before .accepts .ensures) ∙ c .if1 .left)

@@ -1,3 +1,4 @@
+-- `offer` is the machine's answer: the source offered, as a number, is none or one of the six.
 use mathlib.Core.Path.{_≡_, refl, sym, ap, _∙_}
 use borrow.Author.Tests.{eq-eqb, ne-eqb, lt-ltb, le-ltb}
 use Rattle.machine.specs.Calls.{offerAnswer, offerOf}
@@ -13,19 +14,15 @@ use Rattle.interrupts.proofs.offered.Reads as offered-reads
 use Rattle.interrupts.proofs.vector_of.Reads as vector-of-reads
 use Rattle.registers.proofs.accepts.Reads as accepts-reads
 
--- src/lib.rt:71:8
 accepts-requires : tie.Need-accepts-requires
 accepts-requires c κs = search needs
 
--- src/lib.rt:72:13
 offered-requires : tie.Need-offered-requires
 offered-requires c κs = search needs
 
--- src/lib.rt:74:33
 vector-of-requires : tie.Need-vector-of-requires
 vector-of-requires c κs = search needs
 
--- src/lib.rt:68:1
 returns : tie.Need-returns
 unfolding offerAnswer offerOf
 returns c =
@@ -33,12 +30,10 @@ returns c =
     let o = b .offered .ensures in
     simp (sym (b .before .before .accepts .ensures) ∙ b .before .if1 .taken, offered-below (b .before .before .before .args .d .interrupts) (omega (arith, o)) ∙ ap source (sym o), c .vector-of .ensures)
 
--- src/lib.rt:68:1
 returns-2 : tie.Need-returns-2
 unfolding offerAnswer offerOf
 returns-2 c = let o = c .before .offered .ensures in simp (sym (c .before .before .before .accepts .ensures) ∙ c .before .before .if1 .taken, offered-none (c .before .before .before .before .args .d .interrupts) (omega (arith, o)))
 
--- src/lib.rt:68:1
 returns-3 : tie.Need-returns-3
 unfolding offerAnswer
 returns-3 c = simp (sym (c .before .accepts .ensures) ∙ c .if1 .left)

@@ -1,3 +1,4 @@
+-- `reset` is the machine's answer, by the test of the kind.
 use mathlib.Core.Path.{_≡_, refl, sym, ap, _∙_}
 use borrow.Author.Tests.{eq-eqb, ne-eqb, lt-ltb, le-ltb}
 use Rattle.machine.specs.Calls.{resetAnswer}
@@ -9,20 +10,16 @@ use Rattle.c51.proofs.reset.Lts as lts
 use Rattle.registers.proofs.reset_of.Reads as reset-of-reads
 use Rattle.registers.proofs.zeros.Reads as zeros-reads
 
--- src/lib.rt:17:21
 reset-of-requires : tie.Need-reset-of-requires
 reset-of-requires c κs = search needs
 
--- src/lib.rt:22:21
 zeros-requires : tie.Need-zeros-requires
 zeros-requires c κs = search needs
 
--- src/lib.rt:11:1
 returns : tie.Need-returns
 unfolding resetAnswer
 returns c = simp (c .before .if1 .taken, c .reset-of .ensures)
 
--- src/lib.rt:11:1
 returns-2 : tie.Need-returns-2
 unfolding resetAnswer
 returns-2 c = simp (c .before .if1 .left, c .zeros .ensures)

@@ -1,3 +1,4 @@
+-- `take` is the machine's answer: the offer, the vector and the levels in service by their contracts, refusals by the tests.
 use mathlib.Core.Path.{_≡_, refl, sym, ap, _∙_}
 use borrow.Author.Tests.{eq-eqb, ne-eqb, lt-ltb, le-ltb}
 use Rattle.machine.specs.Calls.{takeAnswer, takeOf}
@@ -15,27 +16,21 @@ use Rattle.interrupts.proofs.taken.Reads as taken-reads
 use Rattle.interrupts.proofs.vector_of.Reads as vector-of-reads
 use Rattle.registers.proofs.accepts.Reads as accepts-reads
 
--- src/lib.rt:87:8
 accepts-requires : tie.Need-accepts-requires
 accepts-requires c κs = search needs
 
--- src/lib.rt:88:13
 offered-requires : tie.Need-offered-requires
 offered-requires c κs = search needs
 
--- src/lib.rt:90:17
 vector-of-requires : tie.Need-vector-of-requires
 vector-of-requires c κs = search needs
 
--- src/lib.rt:91:17
 in-service-requires : tie.Need-in-service-requires
 in-service-requires c κs = search needs
 
--- src/lib.rt:92:17
 taken-requires : tie.Need-taken-requires
 taken-requires c κs = search needs
 
--- src/lib.rt:84:1
 returns : tie.Need-returns
 unfolding takeAnswer takeOf
 returns c =
@@ -45,12 +40,10 @@ returns c =
     let o = b .offered .ensures in
     simp (sym (b .before .before .accepts .ensures) ∙ b .before .if1 .taken, offered-below (b .before .before .before .args .d .interrupts) (omega (arith, o)) ∙ ap source (sym o), v .vector-of .ensures, t .before .in-service .ensures, t .taken .ensures)
 
--- src/lib.rt:84:1
 returns-2 : tie.Need-returns-2
 unfolding takeAnswer takeOf
 returns-2 c = let o = c .before .offered .ensures in simp (sym (c .before .before .before .accepts .ensures) ∙ c .before .before .if1 .taken, offered-none (c .before .before .before .before .args .d .interrupts) (omega (arith, o)))
 
--- src/lib.rt:84:1
 returns-3 : tie.Need-returns-3
 unfolding takeAnswer
 returns-3 c = simp (sym (c .before .accepts .ensures) ∙ c .if1 .left)

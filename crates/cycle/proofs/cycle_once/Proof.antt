@@ -1,6 +1,7 @@
+-- `cycle_once` is the cycle of the machine, and whether it is refused by 9: each step by its contract, its ranges from the record check.
 use mathlib.Core.Path.{_≡_, refl, sym, ap, _∙_}
 use native.Mathlib.Omega.{arith}
-use Rattle.laws.proofs.Bits.{bits, low1}
+use Rattle.laws.proofs.Bits.{bits, and-one}
 use Rattle.machine.specs.Bits.{bit}
 use Rattle.machine.specs.Registers.{RXD}
 use Rattle.machine.specs.Cycle.{cycleOf, steps, refused9}
@@ -25,27 +26,21 @@ use Rattle.std.proofs.num.wrapping_add_u64.Reads as wrapping-add-u64-reads
 use Rattle.timer2.proofs.timer2_step.Reads as timer2-step-reads
 use Rattle.timers.proofs.timers_step.Reads as timers-step-reads
 
--- src/lib.rt:87:9
 pins-of-requires : tie.Need-pins-of-requires
 pins-of-requires c κs = search needs
 
--- src/lib.rt:89:9
 timers-step-requires : tie.Need-timers-step-requires
 timers-step-requires c κs = search needs
 
--- src/lib.rt:90:43
 falls-requires : tie.Need-falls-requires
 falls-requires c κs = search needs
 
--- src/lib.rt:90:9
 timer2-step-requires : tie.Need-timer2-step-requires
 timer2-step-requires c κs = search needs
 
--- src/lib.rt:91:9
 ticks-in-requires : tie.Need-ticks-in-requires
 ticks-in-requires c κs = search needs
 
--- src/lib.rt:92:9
 rolls-twice-requires : tie.Need-rolls-twice-requires
 rolls-twice-requires c κs =
     let b = c .before in
@@ -53,36 +48,29 @@ rolls-twice-requires c κs =
     let r = ranges-of (a .args .d) (a .pre) in
     (few-ticks-of (a .args .d) r _ _ (b .before .before .timers-step .ensures) (b .timer2-step .ensures) (c .ticks-in .ensures), r .serial)
 
--- src/lib.rt:93:9
 serial-step-requires : tie.Need-serial-step-requires
 serial-step-requires c κs =
     let k = c .before in
     let b = k .before in
     let a = b .before .before .before .before .before in
     let r = ranges-of (a .args .d) (a .pre) in
-    (few-ticks-of (a .args .d) r _ _ (b .before .before .timers-step .ensures) (b .timer2-step .ensures) (k .ticks-in .ensures), (omega (arith, low1 (b .before .before .before .before .pins-of .result)), r .serial))
+    (few-ticks-of (a .args .d) r _ _ (b .before .before .timers-step .ensures) (b .timer2-step .ensures) (k .ticks-in .ensures), (omega (arith, and-one (b .before .before .before .before .pins-of .result) 0), r .serial))
 
--- src/lib.rt:94:9
 timers-after-requires : tie.Need-timers-after-requires
 timers-after-requires c κs = search needs
 
--- src/lib.rt:95:9
 timer2-after-requires : tie.Need-timer2-after-requires
 timer2-after-requires c κs = search needs
 
--- src/lib.rt:96:9
 seen-of-requires : tie.Need-seen-of-requires
 seen-of-requires c κs = search needs
 
--- src/lib.rt:97:9
 levels-of-requires : tie.Need-levels-of-requires
 levels-of-requires c κs = search needs
 
--- src/lib.rt:98:9
 wrapping-add-u64-requires : tie.Need-wrapping-add-u64-requires
 wrapping-add-u64-requires c κs = search needs
 
--- src/lib.rt:83:1
 returns : tie.Need-returns
 returns c =
     let n = c .before .before in

@@ -1,3 +1,4 @@
+-- `falls` is the definition: the saved level looked up in the list, and the bit of the pin byte.
 use mathlib.Core.Path.{_∙_}
 use Rattle.laws.proofs.Bits.{bits}
 use Rattle.machine.specs.Cycle.{falls}
@@ -8,19 +9,15 @@ use Rattle.cycle.proofs.falls.Reads as reads
 use Rattle.cycle.proofs.falls.Lts as lts
 use Rattle.laws.proofs.picked.Reads as picked-reads
 
--- src/lib.rt:39:15
 array-read-was : tie.Need-array-read-was
 array-read-was c = search needs
 
--- src/lib.rt:40:34
 shr-picked : tie.Need-shr-picked
 shr-picked c = search needs
 
--- src/lib.rt:40:5
 picked-requires : tie.Need-picked-requires
 picked-requires c κs = search needs
 
--- src/lib.rt:34:1
 returns : tie.Need-returns
 unfolding falls
 returns c = c .picked .ensures ∙ simp bits

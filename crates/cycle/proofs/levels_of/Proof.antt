@@ -1,3 +1,4 @@
+-- `levels_of` is the definition: the bits of the pin byte, each by the law of a mask.
 use Rattle.laws.proofs.Bits.{bits}
 use Rattle.machine.specs.Record.{levelsOf}
 use Rattle.cycle.proofs.levels_of.Statement.{statement}
@@ -5,7 +6,6 @@ use Rattle.cycle.proofs.levels_of.Tie as tie
 use Rattle.cycle.proofs.levels_of.Reads as reads
 use Rattle.cycle.proofs.levels_of.Lts as lts
 
--- src/lib.rt:19:1
 returns : tie.Need-returns
 unfolding levelsOf
 returns c = simp bits

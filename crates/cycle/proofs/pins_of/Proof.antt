@@ -1,3 +1,4 @@
+-- `pins_of` is the definition: two bits set by masks on kind 51.
 use mathlib.Core.Path.{_∙_}
 use Rattle.laws.proofs.Bits.{or-bit}
 use Rattle.machine.specs.Record.{pinsOf}
@@ -9,11 +10,9 @@ use Rattle.cycle.proofs.pins_of.Reads as reads
 use Rattle.cycle.proofs.pins_of.Lts as lts
 use Rattle.laws.proofs.picked.Reads as picked-reads
 
--- src/lib.rt:15:5
 picked-requires : tie.Need-picked-requires
 picked-requires c κs = search needs
 
--- src/lib.rt:12:1
 returns : tie.Need-returns
 unfolding pinsOf
 returns c =

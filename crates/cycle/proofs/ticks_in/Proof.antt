@@ -1,3 +1,4 @@
+-- `ticks_in` is step 4 of the definition, by the contract of the serial port's ticks.
 use Rattle.machine.specs.Cycle.{ticksIn}
 use borrow.Author.Needs.{needs}
 use Rattle.cycle.proofs.ticks_in.Statement.{statement}
@@ -6,11 +7,9 @@ use Rattle.cycle.proofs.ticks_in.Reads as reads
 use Rattle.cycle.proofs.ticks_in.Lts as lts
 use Rattle.serial.proofs.serial_ticks.Reads as serial-ticks-reads
 
--- src/lib.rt:72:5
 serial-ticks-requires : tie.Need-serial-ticks-requires
 serial-ticks-requires c κs = search needs
 
--- src/lib.rt:69:1
 returns : tie.Need-returns
 unfolding ticksIn
 returns c = c .serial-ticks .ensures

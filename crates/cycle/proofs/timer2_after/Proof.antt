@@ -1,3 +1,4 @@
+-- `timer2_after` is step 7 of Timer 2, by the contract of `falls`.
 use Rattle.machine.specs.Cycle.{timer2After}
 use borrow.Author.Needs.{needs}
 use Rattle.cycle.proofs.timer2_after.Statement.{statement}
@@ -6,11 +7,9 @@ use Rattle.cycle.proofs.timer2_after.Reads as reads
 use Rattle.cycle.proofs.timer2_after.Lts as lts
 use Rattle.cycle.proofs.falls.Reads as falls-reads
 
--- src/lib.rt:61:5
 falls-requires : tie.Need-falls-requires
 falls-requires c κs = search needs
 
--- src/lib.rt:57:1
 returns : tie.Need-returns
 unfolding timer2After
 returns c = cc

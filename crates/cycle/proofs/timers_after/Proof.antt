@@ -1,3 +1,4 @@
+-- `timers_after` is steps 6 and 7 of Timers 0 and 1: the definition's composition, call by call.
 use Rattle.laws.proofs.Bits.{bits}
 use Rattle.machine.specs.Cycle.{timersAfter, externals}
 use borrow.Author.Needs.{needs}
@@ -9,31 +10,24 @@ use Rattle.cycle.proofs.falls.Reads as falls-reads
 use Rattle.interrupts.proofs.external0.Reads as external0-reads
 use Rattle.interrupts.proofs.external1.Reads as external1-reads
 
--- src/lib.rt:47:38
 falls-requires : tie.Need-falls-requires
 falls-requires c κs = search needs
 
--- src/lib.rt:47:9
 external0-requires : tie.Need-external0-requires
 external0-requires c κs = search needs
 
--- src/lib.rt:48:37
 falls-requires-2 : tie.Need-falls-requires-2
 falls-requires-2 c κs = search needs
 
--- src/lib.rt:48:9
 external1-requires : tie.Need-external1-requires
 external1-requires c κs = search needs
 
--- src/lib.rt:51:5
 falls-requires-3 : tie.Need-falls-requires-3
 falls-requires-3 c κs = search needs
 
--- src/lib.rt:52:5
 falls-requires-4 : tie.Need-falls-requires-4
 falls-requires-4 c κs = search needs
 
--- src/lib.rt:44:1
 returns : tie.Need-returns
 unfolding timersAfter externals
 returns c =

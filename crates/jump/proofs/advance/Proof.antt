@@ -5,7 +5,7 @@ use mathlib.Core.Bool.{true}
 use native.Mathlib.Omega.{arith}
 use Rattle.machine.specs.Record.{accepted}
 use Rattle.machine.specs.Cycle.{cycles}
-use Rattle.strides.proofs.Bools.{clash}
+use Rattle.laws.proofs.Choices.{clash}
 use Rattle.strides.proofs.Runs.{cycles-none}
 use borrow.Author.Needs.{needs}
 use Rattle.jump.proofs.Keeps.{none-refused9}

@@ -7,7 +7,7 @@ use native.Mathlib.Omega.{arith}
 use Rattle.machine.specs.Record.{accepted}
 use Rattle.machine.specs.Cycle.{cycles}
 use Rattle.machine.specs.Calls.{traceCycles}
-use Rattle.strides.proofs.Bools.{clash}
+use Rattle.laws.proofs.Choices.{clash}
 use Rattle.jump.proofs.Keeps.{trace-none-refused9}
 use Rattle.jump.proofs.Rounds.{run-passes, run-reaches, run-accepted}
 use Rattle.jump.proofs.Traces.{run-end, run-on}

@@ -2,7 +2,8 @@
 use mathlib.Core.Path.{refl, _∙_}
 use Prim.Native.Nat.{_+_}
 use Rattle.laws.proofs.Bits.{bits}
-use Rattle.timers.proofs.Counting.{keep-top, count-eq}
+use Rattle.timers.proofs.Counting.{keep-top}
+use Rattle.laws.proofs.Counting.{count-eq}
 use borrow.Author.Needs.{needs}
 use native.Mathlib.Omega.{arith}
 use Rattle.quiet.proofs.by13.Statement.{statement}

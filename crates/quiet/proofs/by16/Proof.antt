@@ -2,7 +2,7 @@
 use mathlib.Core.Path.{refl, _∙_}
 use Prim.Native.Nat.{_+_}
 use Rattle.laws.proofs.Bits.{bits, low8}
-use Rattle.timers.proofs.Counting.{count-eq}
+use Rattle.laws.proofs.Counting.{count-eq}
 use borrow.Author.Needs.{needs}
 use native.Mathlib.Omega.{arith}
 use Rattle.quiet.proofs.by16.Statement.{statement}

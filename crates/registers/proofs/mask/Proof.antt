@@ -19,23 +19,23 @@ low a = omega (arith, and-le-r a 15)
 high : (a : ℕ) → a < 256 → bitOr (a / 8) 16 < 32
 high a h = or-lt 5 (a / 8) 16 (omega arith) (omega arith)
 
-cast-old : tie.Need-cast-old
-cast-old c = record { fits = omega (arith, low (c .args .a / 8)) }
+cast-on51 : tie.Need-cast-on51
+cast-on51 c = record { fits = omega (arith, low (c .args .a / 8)) }
 
-mul-old : tie.Need-mul-old
-mul-old c = record { fits = omega (arith, low (c .args .a / 8)) }
+mul-on51 : tie.Need-mul-on51
+mul-on51 c = record { fits = omega (arith, low (c .args .a / 8)) }
 
-array-copy-out-old : tie.Need-array-copy-out-old
-array-copy-out-old c = omega (arith, low (c .args .a / 8))
+array-copy-out-on51 : tie.Need-array-copy-out-on51
+array-copy-out-on51 c = omega (arith, low (c .args .a / 8))
 
-cast-new : tie.Need-cast-new
-cast-new c = record { fits = omega (arith, high (c .before .args .a) (search needs)) }
+cast-on52 : tie.Need-cast-on52
+cast-on52 c = record { fits = omega (arith, high (c .before .args .a) (search needs)) }
 
-mul-new : tie.Need-mul-new
-mul-new c = record { fits = omega (arith, high (c .before .args .a) (search needs)) }
+mul-on52 : tie.Need-mul-on52
+mul-on52 c = record { fits = omega (arith, high (c .before .args .a) (search needs)) }
 
-array-copy-out-new : tie.Need-array-copy-out-new
-array-copy-out-new c = high (c .before .args .a) (search needs)
+array-copy-out-on52 : tie.Need-array-copy-out-on52
+array-copy-out-on52 c = high (c .before .args .a) (search needs)
 
 cast-at : tie.Need-cast-at
 cast-at c = record { fits = omega (arith, and-le-r (c .before .before .args .a) 7) }
@@ -64,12 +64,12 @@ pub mask-spec : {M : Type 1} → statement M
 mask-spec =
     tie.close
     (tie.spec
-    cast-old
-    mul-old
-    array-copy-out-old
-    cast-new
-    mul-new
-    array-copy-out-new
+    cast-on51
+    mul-on51
+    array-copy-out-on51
+    cast-on52
+    mul-on52
+    array-copy-out-on52
     cast-at
     array-read-picked
     array-read-picked-2

@@ -5,7 +5,7 @@ use Prim.Native.Nat.{ℕ}
 use lib.Dec.{eqb}
 use Rattle.machine.specs.Record.{serialMode}
 use Rattle.machine.specs.Serial.{withReceive, receiveAt, receiveBit}
-use Rattle.serial.proofs.Cases.{cond-ap}
+use Rattle.laws.proofs.Choices.{cond-ap}
 use Rattle.serial.proofs.Receiving.{done-rests}
 use borrow.Author.Needs.{needs}
 use Rattle.serial.proofs.receive_bit.Statement.{statement}

@@ -5,7 +5,7 @@ use Prim.Native.Nat.{ℕ}
 use Rattle.machine.specs.Registers.{TF2, EXF2}
 use Rattle.machine.specs.declared.Timer2.{Timer2}
 use Rattle.machine.specs.declared.Timer2Counted.{Timer2Counted}
-use Rattle.machine.specs.declared.Laps.{Laps}
+use Rattle.machine.specs.declared.Counted16.{Counted16}
 use Rattle.machine.specs.Timer2.{rcap2, withT2con, withCount2, captures, counted2, copied2, captureStep}
 use Rattle.timer2.proofs.Laws.{overflow-by-mask, overflow-and-mask}
 use borrow.Author.Needs.{needs}
@@ -37,10 +37,10 @@ copied2-requires : tie.Need-copied2-requires
 copied2-requires c κs = search needs
 
 -- the one count, and the step's answer around it
-abbrev counted : Timer2 → Laps
+abbrev counted : Timer2 → Counted16
 counted t = counted2 1 (cond (captures t) 0 (rcap2 t)) t
 
-abbrev step : Timer2 → Laps → Timer2Counted
+abbrev step : Timer2 → Counted16 → Timer2Counted
 step u s = record { timer2 = u; overflows = s .overflows; tf2 = s .overflows }
 
 returns : tie.Need-returns

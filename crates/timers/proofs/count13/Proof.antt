@@ -1,5 +1,6 @@
 -- `count13` is its definition: the joined pair is one number of 13 bits, whose count is taken apart again.
-use Rattle.timers.proofs.Counting.{join13, keep-top, count-eq}
+use Rattle.timers.proofs.Counting.{join13, keep-top}
+use Rattle.laws.proofs.Counting.{count-eq}
 use mathlib.Core.Path.{sym, ap, _∙_}
 use lib.Pow.{field}
 use lib.Bits.{bitAnd, bitOr}

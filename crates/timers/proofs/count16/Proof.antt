@@ -1,5 +1,5 @@
 -- `count16` is its definition: the joined pair is one number of 16 bits, and it carries by the law `carry`.
-use Rattle.timers.proofs.Counting.{carry, count-eq}
+use Rattle.laws.proofs.Counting.{carry, count-eq}
 use Rattle.laws.proofs.Bits.{low8, join16}
 use Prim.Native.Nat.{_+_, _*_}
 use mathlib.Core.Path.{_∙_}

@@ -1,5 +1,5 @@
 -- `overflow8` is the carry out of 8 bits, by the law `carry`.
-use Rattle.timers.proofs.Counting.{carry}
+use Rattle.laws.proofs.Counting.{carry}
 use native.Mathlib.Omega.{arith}
 use borrow.Author.Needs.{needs}
 use Rattle.timers.proofs.overflow8.Statement.{statement}
