@@ -18,15 +18,16 @@ lib:
 	@rt staticlib c51_lent >dist/build.log 2>&1 || { cat dist/build.log; exit 1; }
 	@cp target/staticlib/libc51_lent.a dist/libc51.a && cp include/c51.h dist/c51.h
 
-# replay_main, which answers a call script on standard input: target/bin/replay_main.
-replay:
-	rt check replay_main
+# dist/replay, which answers a call script (docs/SCRIPTS.md) on standard input.
+replay: lib
+	@cd rust && cargo build --release --offline --quiet -p replay
+	@cp -f rust/target/release/replay dist/replay
 
-# replay_main against the model on fresh random scripts; SEED=N takes a seed again.
+# dist/replay against the model on fresh random scripts; SEED=N takes a seed again.
 ifndef SEED
 SEED := $(shell date +%s)
 endif
-compare: lib replay
+compare: replay
 	@echo "seed $(SEED)"
 	@sh tests/compare.sh 8 4000 $(SEED)
 

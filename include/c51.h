@@ -7,8 +7,7 @@
  *
  * A call answers a code: 0, or the number of the refusal. The lowest number applies, except that in a trace 5 goes first after 1,
  * then the first bad entry, 4 before 8 within it. A refused call leaves the record as it was, and every other number of its answer
- * is 0; of a device in it, see the answers below. Each call but c51_reset and c51_accepts first judges the record, so that each of
- * them may answer C51_BAD_RECORD.
+ * is 0. Each call but c51_reset and c51_accepts first judges the record, so that each of them may answer C51_BAD_RECORD.
  */
 #ifndef C51_H
 #define C51_H
@@ -145,24 +144,17 @@ typedef char c51_device_layout[sizeof(c51_device) == 56 && offsetof(c51_device, 
 
 /* ---------------------------------------------------------------- the answers */
 
-/* A code and the device after the call. Of a refused call it is the device as given, of a refused reset a record all zero. */
+/* A reset: the device after it, a record all zero where it is refused. */
 typedef struct {
     uint8_t code;
     c51_device device;
 } c51_answer;
 
-/* A cycle in place: the output line as the cycle leaves it. */
+/* A cycle: the output line as the cycle leaves it. */
 typedef struct {
     uint8_t code;
     uint8_t line;
 } c51_line_answer;
-
-/* A cycle by value. Of a refused one the device is the one given. */
-typedef struct {
-    uint8_t code;
-    uint8_t line;
-    c51_device device;
-} c51_cycle_answer;
 
 /* A take: the vector. */
 typedef struct {
@@ -204,9 +196,17 @@ c51_line_answer c51_cycle(c51_device *device, uint8_t pins);
  * flag that changes) and one for each quiet run between them; 2^40 busy cycles take about a day. Refusals: 1, 4, 5, 9. */
 uint8_t c51_jump(c51_device *device, uint8_t pins, uint64_t n);
 
+/* Runs a trace of count entries, checked whole before it runs: the pin byte in the top 8 bits of an entry, 1 to
+ * 16,777,215 cycles in the other 24. entries points to count numbers and is never NULL, even where count is 0.
+ * Refusals: 1, 5, 4, 8, 9. */
+uint8_t c51_trace(c51_device *device, const uint32_t *entries, size_t count);
+
 /* Takes the interrupt that is offered: its level is in service, its bit leaves seen and polled, and TF0, TF1 or an edge-triggered
  * IE0 or IE1 is cleared. Refusals: 1, 6. */
 c51_vector_answer c51_take(c51_device *device);
+
+/* Return from interrupt: the high level leaves service, or else the low one. Refusals: 1, 7. */
+uint8_t c51_return(c51_device *device);
 
 /* ---------------------------------------------------------------- calls by value: the device that is passed stays as it is */
 
@@ -223,19 +223,38 @@ c51_offer_answer c51_offer(c51_device device);
  * Refusals: 1, 4, 5. No cycle of an accepted device meets 9, so that it may stop there. */
 c51_look_answer c51_look(c51_device device, uint8_t pins, uint64_t n);
 
-/* Return from interrupt: the high level leaves service, or else the low one. Refusals: 1, 7. */
-c51_answer c51_return(c51_device device);
-
-/* Runs a trace of count entries, checked whole before it runs: the pin byte in the top 8 bits of an entry, 1 to 16,777,215 cycles in the
- * other 24. entries points to count numbers and is never NULL, even where count is 0. Refusals: 1, 5, 4, 8, 9. */
-c51_answer c51_trace(c51_device device, const uint32_t *entries, size_t count);
-
 /* 1 where the record is accepted, 0 where every call but reset refuses it by 1. */
 uint8_t c51_accepts(c51_device device);
 
-/* The cycle and the jump once more, by value. Refusals as above. */
-c51_cycle_answer c51_cycle_value(c51_device device, uint8_t pins);
-c51_answer c51_jump_value(c51_device device, uint8_t pins, uint64_t n);
+/* ---------------------------------------------------------------- a whole list of calls at once */
+
+#define C51_CALL_WORDS 3    /* a call: its number, and two arguments */
+#define C51_ANSWER_WORDS 3  /* an answer: its code, how many numbers it gives or C51_NONE, and the number or 0 */
+#define C51_NONE UINT64_MAX /* an offer or a look ahead that passed and found none */
+
+/* The calls by number, each with its arguments and with the number that it gives, where it gives one. Of a kind, an
+ * address, a value and a pin byte the low 8 bits count; an argument that a call does not have may be anything. */
+enum {
+    C51_CALL_RESET = 0, /* kind */
+    C51_CALL_READ = 1,  /* address; gives the register */
+    C51_CALL_WRITE = 2, /* address, value */
+    C51_CALL_CYCLE = 3, /* pins; gives the output line */
+    C51_CALL_JUMP = 4,  /* pins, n */
+    C51_CALL_TRACE = 5, /* start, end: entries[start] to entries[end - 1]; none where these are not in order or not in range */
+    C51_CALL_LOOK = 6,  /* pins, n; gives the cycle, or C51_NONE */
+    C51_CALL_OFFER = 7, /* gives the vector, or C51_NONE */
+    C51_CALL_TAKE = 8,  /* gives the vector */
+    C51_CALL_RETURN = 9 /* and so is every other number */
+};
+
+/* Runs calls one after the other, each on the device as the one before left it, and writes down the answer to each.
+ * A refused call that would give a number gives 0; it leaves the device, but a refused reset leaves a record all
+ * zero. The lengths count words: as many calls run as both calls and answers have whole rows for, and what lies past
+ * them in answers stays as it was. Each pointer is aligned as its type is, points to as many numbers as its length
+ * says and is never NULL, even where that is 0. The device is as for the calls in place, and answers overlaps
+ * neither it nor calls nor entries. */
+void c51_replay(c51_device *device, const uint64_t *calls, size_t calls_length, const uint32_t *entries, size_t entries_length,
+                uint64_t *answers, size_t answers_length);
 
 #ifdef __cplusplus
 }

@@ -1,10 +1,10 @@
 #!/bin/sh
-# The cards that are run and not proved, and the examples: each script through replay_main gives the answers that stand beside it, which
-# document 01 states.
+# The fixed call scripts: a script of every form of a line, the cards that are run and not proved, and the examples.
+# Each through dist/replay gives the answers that stand beside it; document 01 states those of the cards.
 cd "$(dirname "$0")/.." || exit 1
 . tests/replay.sh
 
-for script in tests/cards/*.txt examples/*.txt; do
+for script in tests/scripts/*.txt tests/cards/*.txt examples/*.txt; do
     answered "$script" "$script" "${script%.txt}.answers"
 done
 

@@ -1,7 +1,8 @@
 #!/bin/sh
-# compare.sh [SEEDS [LINES [FIRST]]]: replay_main against the model by other hands, on the scripts of the model's generator, of every
-# style, and on the same scripts damaged. SEEDS scripts of LINES lines for each style, seeds FIRST and up. Only a call that is out of
-# reach is shortened (rust/compare/src/reach.rs); all else is as generated. Without arguments it is the fixed run.
+# compare.sh [SEEDS [LINES [FIRST]]]: dist/replay against the model by other hands, on the scripts of the model's
+# generator, of every style, and on the same scripts damaged. SEEDS scripts of LINES lines for each style, seeds FIRST
+# and up. Only a call that is out of reach is shortened (rust/compare/src/reach.rs); all else is as generated. Without
+# arguments it is the fixed run.
 cd "$(dirname "$0")/.." || exit 1
 least_calls=300000
 for number in "$@"; do
@@ -39,7 +40,8 @@ damage() {
         else print $0 }'
 }
 
-# same NAME SCRIPT: the script within reach gets the same answers from both. The calls are its lines but faults, dumps and set records.
+# same NAME SCRIPT: the script within reach gets the same answers from both. The calls are its lines but faults, dumps
+# and set records.
 same() {
     if ! "$reach" <"$2" >"$work/script"; then
         fault "$1" 'reach fails'

@@ -36,15 +36,17 @@ part() {
 }
 
 part 'layout: every crate and Rattle file listed, no axiom, no foreign function' sh tests/layout.sh
-part 'the layout test finds what it must' sh tests/layout_finds.sh
-part 'proofs, must-fail edits and programs (rt ci)' rt ci
+part 'imports: every name that is imported is used' sh tests/imports.sh
+part 'edits: docs/PROOF.md lists the must-fail edits' sh tests/edits.sh
+part 'the tests of the sources find what they must' sh tests/finds.sh
+part 'proofs and must-fail edits (rt ci)' rt ci
 part 'format (rt fmt --check)' sh tests/format.sh
 part 'the model by other hands (cargo test)' sh tests/cargo.sh model
-part 'the cards and examples that are run' sh tests/cards.sh
-part 'the C library is built' sh tests/build.sh
+part 'the C library and the replay program are built' sh tests/build.sh
 part 'the C library: header and exports' sh tests/lib.sh
-part 'replay_main against the model, fixed scripts' sh tests/compare.sh
-part 'wrapper, comparison, station, benchmark (cargo test)' sh tests/cargo.sh rust
+part 'the fixed call scripts: every form of a line, cards, examples' sh tests/cards.sh
+part 'the replay program against the model, fixed scripts' sh tests/compare.sh
+part 'wrapper, replay, comparison, station, benchmark (cargo test)' sh tests/cargo.sh rust
 
 printf '%s passed, %s failed\n' "$passed" "$failed"
 [ "$failed" = 0 ]

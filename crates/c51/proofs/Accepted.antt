@@ -1,35 +1,22 @@
 -- Every call keeps an accepted record accepted: the device of its answer is the one given or one that the parts' ranges accept.
-use mathlib.Core.Path.{_≡_, refl, subst}
-use mathlib.Core.Bool.{Bool, true, false, cond}
+use mathlib.Core.Path.{_≡_}
+use mathlib.Core.Bool.{true}
 use mathlib.Core.List.{List}
 use Prim.Native.Nat.{ℕ, _<_}
 use lib.Dec.{eqb, leb}
-use Rattle.laws.proofs.Choices.{chosen}
+use Rattle.laws.proofs.Choices.{by-test}
 use Rattle.machine.specs.declared.Device.{Device}
 use Rattle.machine.specs.declared.Interrupts.{Interrupts}
-use Rattle.machine.specs.declared.Answer.{Answer}
-use Rattle.machine.specs.declared.CycleAnswer.{CycleAnswer}
-use Rattle.machine.specs.declared.TakeAnswer.{TakeAnswer}
-use Rattle.machine.specs.Registers.{lacks, kept}
+use Rattle.machine.specs.Registers.{lacks}
 use Rattle.machine.specs.Record.{accepted, pinsOk}
 use Rattle.machine.specs.Interrupts.{Source, none, source, offered, inService, taken, returned, noneInService}
-use Rattle.machine.specs.Cycle.{cycleOf, refused9, cycles, anyRefused9}
-use Rattle.machine.specs.Calls.{resetAnswer, writeAnswer, cycleAnswer, takeAnswer, takeOf, returnAnswer, jumpAnswer, longest, traceAnswer, traceFault, traceRefused9, traceCycles, stored, withTcon, withInterrupts, passed, refuse, passedCycle, refuseCycle, refuseTake}
-use Rattle.interrupts.proofs.Ranges as interrupts
-use Rattle.registers.specs.Ranges.{Ranges, InterruptsOk}
+use Rattle.machine.specs.Calls.{resetAnswer, writeAnswer, cycleAnswer, takeAnswer, takeOf, returnAnswer, jumpAnswer, longest, traceAnswer, traceFault, withTcon, withInterrupts}
+use Rattle.laws.specs.Ranges.{InterruptsOk}
+use Rattle.interrupts.proofs.Ranges.{taken-byte, in-service-ok, returned-ok}
 use Rattle.registers.proofs.Accepted.{ranges-of, accepted-of, reset-accepted51, reset-accepted52}
 use Rattle.registers.proofs.Written.{write-accepted}
-use Rattle.cycle.proofs.Keeps.{cycle-accepted}
-use Rattle.jump.proofs.Keeps.{cycles-accepted, trace-accepted}
-
-Kept : Answer → Type 0
-Kept a = accepted (a .device) ≡ true
-
-KeptCycle : CycleAnswer → Type 0
-KeptCycle a = accepted (a .device) ≡ true
-
-KeptTake : TakeAnswer → Type 0
-KeptTake a = accepted (a .device) ≡ true
+use Rattle.cycle.proofs.Keeps.{never9, cycle-accepted}
+use Rattle.jump.proofs.Keeps.{cycles-accepted, none-refused9, trace-accepted, trace-none-refused9}
 
 -- reset of kind 51 and of kind 52
 pub reset-kept51 : accepted (resetAnswer 51 .device) ≡ true
@@ -42,40 +29,32 @@ reset-kept52 = reset-accepted52
 
 module _ (d : Device) (a : accepted d ≡ true) where
   pub write-kept : (address v : ℕ) → v < 256 → accepted (writeAnswer d address v .device) ≡ true
-  unfolding writeAnswer Kept
+  unfolding writeAnswer
   write-kept address v h =
-      chosen Kept (accepted d) _ _ (chosen Kept (lacks (d .kind) address) _ _ a (write-accepted d address v h a)) a
+      rw a (by-test (lacks (d .kind) address) (λ lacking. rw lacking a) (λ there. rw there (write-accepted d address v h a)))
 
   pub cycle-kept : (pins : ℕ) → accepted (cycleAnswer d pins .device) ≡ true
-  unfolding cycleAnswer KeptCycle
+  unfolding cycleAnswer
   cycle-kept pins =
-      chosen KeptCycle (accepted d) _ _ (chosen KeptCycle (pinsOk pins) _ _ (chosen KeptCycle (refused9 pins d) _ _ a (cycle-accepted pins d a)) a) a
+      rw (a, never9 pins d a) (by-test (pinsOk pins) (λ good. rw good (cycle-accepted pins d a)) (λ bad. rw bad a))
 
   pub jump-kept : (pins n : ℕ) → accepted (jumpAnswer d pins n .device) ≡ true
-  unfolding jumpAnswer Kept
+  unfolding jumpAnswer
   jump-kept pins n =
-      chosen Kept (accepted d) _ _
-      (chosen Kept (pinsOk pins) _ _
-      (chosen Kept (leb n longest) _ _ (chosen Kept (anyRefused9 n pins d) _ _ a (cycles-accepted n pins d a)) a)
-      a)
-      a
+      rw (a, none-refused9 n pins d a)
+      (by-test (pinsOk pins) (λ good. rw good (by-test (leb n longest) (λ short. rw short (cycles-accepted n pins d a)) (λ long. rw long a)))
+      (λ bad. rw bad a))
 
   pub trace-kept : (es : List ℕ) → accepted (traceAnswer d es .device) ≡ true
-  unfolding traceAnswer Kept
+  unfolding traceAnswer
   trace-kept es =
-      chosen Kept (accepted d) _ _
-      (chosen Kept (eqb (traceFault es) 0) _ _ (chosen Kept (traceRefused9 es d) _ _ a (trace-accepted es d a)) a)
-      a
+      rw (a, trace-none-refused9 es d a)
+      (by-test (eqb (traceFault es) 0) (λ good. rw good (trace-accepted es d a)) (λ bad. rw bad a))
 
-  of-interrupts : interrupts.Ranges (d .interrupts)
-  of-interrupts =
-      let r = ranges-of d a .interrupts in
-      record { seen = r .seen; polled = r .polled; low = r .low; high = r .high }
-
-  -- TCON a byte, and the interrupt controller within its ranges, IE and IP as they were
-  changed : (tcon : ℕ) (i : Interrupts) → tcon < 256 → i .ie ≡ d .interrupts .ie → i .ip ≡ d .interrupts .ip → interrupts.Ranges i
+  -- TCON a byte, and the interrupt controller within its ranges
+  changed : (tcon : ℕ) (i : Interrupts) → tcon < 256 → InterruptsOk (d .kind) i
       → accepted (withInterrupts (withTcon tcon (d .timers)) i d) ≡ true
-  changed tcon i t e p k =
+  changed tcon i t k =
       let r = ranges-of d a in
       accepted-of (withInterrupts (withTcon tcon (d .timers)) i d)
       (record {
@@ -94,35 +73,26 @@ module _ (d : Device) (a : accepted d ≡ true) where
               due1 = r .timers .due1;
             };
         timer2 = r .timer2;
+        absent = r .absent;
         serial = r .serial;
-        interrupts =
-            record {
-              ie = rw e (r .interrupts .ie);
-              ieBits = rw e (r .interrupts .ieBits);
-              ip = rw p (r .interrupts .ip);
-              ipBits = rw p (r .interrupts .ipBits);
-              seen = k .seen;
-              polled = k .polled;
-              low = k .low;
-              high = k .high;
-            };
+        interrupts = k;
         levels = r .levels;
         cycle = r .cycle;
       })
 
   of-take : (s : Source) → accepted (takeOf d s .device) ≡ true
-  unfolding takeOf inService
+  unfolding takeOf
   of-take none = a
   of-take (source k) =
-      changed (taken k (d .timers .tcon)) (inService k (d .interrupts)) (interrupts.taken-byte k (d .timers .tcon) (ranges-of d a .timers .tcon)) refl refl (interrupts.in-service-ranges k (d .interrupts) of-interrupts)
+      changed (taken k (d .timers .tcon)) (inService k (d .interrupts)) (taken-byte k (d .timers .tcon) (ranges-of d a .timers .tcon)) (in-service-ok (d .kind) k (d .interrupts) (ranges-of d a .interrupts))
 
   pub take-kept : accepted (takeAnswer d .device) ≡ true
-  unfolding takeAnswer KeptTake
-  take-kept = chosen KeptTake (accepted d) _ _ (of-take (offered (d .interrupts))) a
+  unfolding takeAnswer
+  take-kept = rw a (of-take (offered (d .interrupts)))
 
   pub return-kept : accepted (returnAnswer d .device) ≡ true
-  unfolding returnAnswer Kept returned
+  unfolding returnAnswer
   return-kept =
-      chosen Kept (accepted d) _ _
-      (chosen Kept (noneInService (d .interrupts)) _ _ a (changed (d .timers .tcon) (returned (d .interrupts)) (ranges-of d a .timers .tcon) refl refl (interrupts.returned-ranges (d .interrupts) of-interrupts)))
-      a
+      rw a
+      (by-test (noneInService (d .interrupts)) (λ none. rw none a)
+      (λ some. rw some (changed (d .timers .tcon) (returned (d .interrupts)) (ranges-of d a .timers .tcon) (returned-ok (d .kind) (d .interrupts) (ranges-of d a .interrupts)))))

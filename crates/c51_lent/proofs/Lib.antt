@@ -1,2 +1,3 @@
+pub mod Locals
 pub mod Lent
 pub mod Refused

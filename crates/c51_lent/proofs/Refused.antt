@@ -1,23 +1,27 @@
 -- A refused call leaves the record as it was, and every other number of its answer is 0: by cases of the refusals.
 use mathlib.Core.Path.{_≡_, refl}
-use mathlib.Core.Bool.{Bool, true, false, cond}
+use mathlib.Core.List.{List}
 use Prim.Native.Nat.{ℕ}
-use lib.Dec.{leb}
+use lib.Dec.{eqb, leb}
 use Rattle.laws.proofs.Choices.{chosen}
 use Rattle.machine.specs.declared.Device.{Device}
 use Rattle.machine.specs.declared.Answer.{Answer}
+use Rattle.machine.specs.declared.RunAnswer.{RunAnswer}
 use Rattle.machine.specs.declared.CycleAnswer.{CycleAnswer}
 use Rattle.machine.specs.declared.TakeAnswer.{TakeAnswer}
 use Rattle.machine.specs.Registers.{lacks}
 use Rattle.machine.specs.Record.{accepted, pinsOk}
-use Rattle.machine.specs.Interrupts.{Source, none, source, offered}
+use Rattle.machine.specs.Interrupts.{Source, none, source, offered, noneInService}
 use Rattle.machine.specs.Cycle.{refused9, anyRefused9}
-use Rattle.machine.specs.Calls.{writeAnswer, cycleAnswer, jumpAnswer, takeAnswer, takeOf, longest}
+use Rattle.machine.specs.Calls.{writeAnswer, cycleAnswer, jumpAnswer, traceAnswer, traceFault, traceRefused9, takeAnswer, takeOf, returnAnswer, longest}
 
 module _ (d : Device) where
   -- refused, or all is well
   abbrev Same : Answer → Type 0
   Same a = (a .code ≡ 0 → ⊥) → a .device ≡ d
+
+  abbrev SameRun : RunAnswer → Type 0
+  SameRun a = (a .code ≡ 0 → ⊥) → a .device ≡ d
 
   abbrev SameCycle : CycleAnswer → Type 0
   SameCycle a = (a .code ≡ 0 → ⊥) → (a .line ≡ 0) × (a .device ≡ d)
@@ -37,11 +41,20 @@ module _ (d : Device) where
       (chosen SameCycle (pinsOk pins) _ _ (chosen SameCycle (refused9 pins d) _ _ (λ _. (refl, refl)) (λ n. absurd (n refl))) (λ _. (refl, refl)))
       (λ _. (refl, refl))
 
-  pub jump-refused : (pins n : ℕ) → Same (jumpAnswer d pins n)
+  pub jump-refused : (pins n : ℕ) → SameRun (jumpAnswer d pins n)
   unfolding jumpAnswer
   jump-refused pins n =
-      chosen Same (accepted d) _ _
-      (chosen Same (pinsOk pins) _ _ (chosen Same (leb n longest) _ _ (chosen Same (anyRefused9 n pins d) _ _ (λ _. refl) (λ n. absurd (n refl))) (λ _. refl)) (λ _. refl))
+      chosen SameRun (accepted d) _ _
+      (chosen SameRun (pinsOk pins) _ _
+      (chosen SameRun (leb n longest) _ _ (chosen SameRun (anyRefused9 n pins d) _ _ (λ _. refl) (λ n. absurd (n refl))) (λ _. refl))
+      (λ _. refl))
+      (λ _. refl)
+
+  pub trace-refused : (es : List ℕ) → SameRun (traceAnswer d es)
+  unfolding traceAnswer
+  trace-refused es =
+      chosen SameRun (accepted d) _ _
+      (chosen SameRun (eqb (traceFault es) 0) _ _ (chosen SameRun (traceRefused9 es d) _ _ (λ _. refl) (λ n. absurd (n refl))) (λ _. refl))
       (λ _. refl)
 
   taken : (s : Source) → SameTake (takeOf d s)
@@ -52,3 +65,8 @@ module _ (d : Device) where
   pub take-refused : SameTake (takeAnswer d)
   unfolding takeAnswer
   take-refused = chosen SameTake (accepted d) _ _ (taken (offered (d .interrupts))) (λ _. (refl, refl))
+
+  pub return-refused : Same (returnAnswer d)
+  unfolding returnAnswer
+  return-refused =
+      chosen Same (accepted d) _ _ (chosen Same (noneInService (d .interrupts)) _ _ (λ _. refl) (λ n. absurd (n refl))) (λ _. refl)

@@ -1,10 +1,11 @@
-// The library for C: write, cycle, jump and take over a device record that is lent by reference and altered there, and the other calls over one
-// passed by value. Each is thin over the public call of `c51`; nothing is asked of the record.
+// The library for C: the calls that alter a device, and whole scripts of calls, over a device record that is lent by reference and
+// altered there, and the others over one passed by value. Each is thin over the public call of `c51` or `lists`; nothing is asked of
+// the record.
 ghost use mathlib.Core.Path.{_≡_};
 ghost use Rattle.machine.specs.Calls as Machine;
+ghost use Rattle.lists.specs.Script.{script, Replayed};
 ghost use Rattle.c51_lent.specs.Answers as Numbers;
 use machine::Answer;
-use machine::CycleAnswer;
 use machine::Device;
 
 // A cycle's code and the output line as it leaves it.
@@ -77,6 +78,16 @@ pub extern "C" fn c51_jump(d: &mut Device, pins: u8, n: u64) -> u8
     jumped.code
 }
 
+// A trace run: 1, 5, 4, 8, 9.
+#[no_mangle]
+pub extern "C" fn c51_trace(d: &mut Device, entries: &[u32]) -> u8
+    ensures { λ r. ⌜ (r ≡ Machine.traceAnswer (now (d .entry)) (now (entries .entry)) .code) × (now (d .exit) ≡ Machine.traceAnswer (now (d .entry)) (now (entries .entry)) .device) ⌝ }
+{
+    let ran = c51::trace(*d, entries);
+    *d = ran.device;
+    ran.code
+}
+
 // Take what is offered: 1, 6.
 #[no_mangle]
 pub extern "C" fn c51_take(d: &mut Device) -> VectorAnswer
@@ -88,6 +99,25 @@ pub extern "C" fn c51_take(d: &mut Device) -> VectorAnswer
         code: taken.code,
         vector: taken.vector,
     }
+}
+
+// Return from an interrupt (RETI): 1, 7.
+#[no_mangle]
+pub extern "C" fn c51_return(d: &mut Device) -> u8
+    ensures { λ r. ⌜ (r ≡ Machine.returnAnswer (now (d .entry)) .code) × (now (d .exit) ≡ Machine.returnAnswer (now (d .entry)) .device) ⌝ }
+{
+    let returned = c51::reti(*d);
+    *d = returned.device;
+    returned.code
+}
+
+// A whole script, by the calls: rows of words in `calls`, the traces' entries in `lent`, and a row of `answers` for each call. What
+// lies past the answers stays.
+#[no_mangle]
+pub extern "C" fn c51_replay(d: &mut Device, calls: &[u64], lent: &[u32], answers: &mut [u64])
+    ensures { λ _. ⌜ Replayed (now (d .entry)) (script (now (calls .entry)) (now (lent .entry))) (now (answers .entry)) (now (d .exit)) (now (answers .exit)) ⌝ }
+{
+    *d = lists::replay(*d, calls, lent, answers);
 }
 
 // Reset: 2 with a kind other than 51 and 52.
@@ -160,42 +190,10 @@ pub extern "C" fn c51_look(d: Device, pins: u8, n: u64) -> LookedAnswer
     }
 }
 
-// Return from an interrupt (RETI): 1, 7.
-#[no_mangle]
-pub extern "C" fn c51_return(d: Device) -> Answer
-    ensures { λ r. ⌜ r ≡ Machine.returnAnswer d ⌝ }
-{
-    c51::reti(d)
-}
-
-// A trace run: 1, 5, 4, 8, 9.
-#[no_mangle]
-pub extern "C" fn c51_trace(d: Device, entries: &[u32]) -> Answer
-    ensures { λ r. ⌜ r ≡ Machine.traceAnswer d (now (entries .entry)) ⌝ }
-{
-    c51::trace(d, entries)
-}
-
 // 1 where the record is accepted.
 #[no_mangle]
 pub extern "C" fn c51_accepts(d: Device) -> u8
     ensures { λ r. ⌜ r ≡ Numbers.acceptsAnswer d ⌝ }
 {
     if registers::accepts(d) { 1 } else { 0 }
-}
-
-// One machine cycle by value: 1, 4, 9.
-#[no_mangle]
-pub extern "C" fn c51_cycle_value(d: Device, pins: u8) -> CycleAnswer
-    ensures { λ r. ⌜ r ≡ Machine.cycleAnswer d pins ⌝ }
-{
-    c51::cycle(d, pins)
-}
-
-// n cycles with one pin byte, by value: 1, 4, 5, 9.
-#[no_mangle]
-pub extern "C" fn c51_jump_value(d: Device, pins: u8, n: u64) -> Answer
-    ensures { λ r. ⌜ r ≡ Machine.jumpAnswer d pins n ⌝ }
-{
-    c51::jump(d, pins, n)
 }

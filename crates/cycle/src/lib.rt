@@ -1,18 +1,22 @@
 // One machine cycle: steps 1 to 8 over the parts, on a record that the record check accepts.
 ghost use mathlib.Core.Path.{_≡_};
-ghost use mathlib.Core.Bool.{true, false};
+ghost use mathlib.Core.Bool.{true};
 ghost use Prim.Native.Nat.{_<_};
 ghost use Rattle.machine.specs.Record.{accepted, pinsOf, levelsOf};
 ghost use Rattle.machine.specs.Cycle as Rule;
 ghost use Rattle.cycle.specs.Once.{onceOf};
+use machine::Counted;
 use machine::Device;
+use machine::Overflows;
 use machine::Ticks;
 use machine::Timer2;
-use machine::Timer2Counted;
 use machine::Timers;
-use machine::TimersCounted;
+use machine::places::IE0;
+use machine::places::IE1;
 use machine::places::INT0;
 use machine::places::INT1;
+use machine::places::IT0;
+use machine::places::IT1;
 use machine::places::RXD;
 use machine::places::T0;
 use machine::places::T1;
@@ -55,8 +59,10 @@ fn falls(saved: [u8; 7], pins: u8, pin: u8) -> u8
 fn timers_after(saved: [u8; 7], pins: u8, t: Timers) -> Timers
     ensures { λ r. ⌜ r ≡ Rule.timersAfter saved pins t ⌝ }
 {
-    let with_ie0 = interrupts::external0(falls(saved, pins, INT0), (pins >> INT0) & 1, t.tcon);
-    let with_both = interrupts::external1(falls(saved, pins, INT1), (pins >> INT1) & 1, with_ie0);
+    let fell0 = falls(saved, pins, INT0);
+    let fell1 = falls(saved, pins, INT1);
+    let with_ie0 = interrupts::external(IT0, IE0, fell0, (pins >> INT0) & 1, t.tcon);
+    let with_both = interrupts::external(IT1, IE1, fell1, (pins >> INT1) & 1, with_ie0);
     let mut u = t;
     u.tcon = with_both;
     u.due0 = falls(saved, pins, T0);
@@ -73,46 +79,78 @@ fn timer2_after(saved: [u8; 7], pins: u8, t: Timer2) -> Timer2
     u
 }
 
-// Step 4, with the overflows that steps 2 and 3 hand on.
-fn ticks_in(d: Device, t: TimersCounted, u: Timer2Counted) -> Ticks
-    ensures { λ r. ⌜ r ≡ Rule.ticksIn d t u ⌝ }
+// Steps 2 and 3: what the timers count.
+fn counted(d: Device, pins: u8) -> Counted
+    ensures { λ r. ⌜ r ≡ Rule.counted d pins ⌝ }
 {
-    serial::serial_ticks(d.pcon, d.timer2.t2con, d.serial, t.overflow1, u.overflows)
+    let saved = d.levels;
+    let t = timers::timers_step(d.timers, pins);
+    let u = timer2::timer2_step(d.timer2, falls(saved, pins, T2EX));
+    Counted {
+        timers: t,
+        timer2: u,
+    }
 }
 
-// A cycle: whether a serial counter rolls over twice in it, which is refusal 9, and the device after it.
+// The overflows that they hand on.
+fn overflows_of(c: Counted) -> Overflows
+    ensures { λ r. ⌜ r ≡ Rule.overflowsOf c ⌝ }
+{
+    Overflows {
+        timer0: c.timers.overflow0,
+        th0: c.timers.overflow_th0,
+        timer1: c.timers.overflow1,
+        timer2: c.timer2.overflows,
+    }
+}
+
+// Step 4, with the overflows of Timers 1 and 2.
+fn ticks_in(d: Device, c: Counted) -> Ticks
+    ensures { λ r. ⌜ r ≡ Rule.ticksIn d c ⌝ }
+{
+    serial::serial_ticks(
+        d.pcon,
+        d.timer2.t2con,
+        d.serial,
+        c.timers.overflow1,
+        c.timer2.overflows,
+    )
+}
+
+// A cycle: whether a serial counter rolls over twice in it, which is refusal 9, its overflows, and the device after it.
 pub struct Once {
     pub twice: bool,
+    pub overflows: Overflows,
     pub device: Device,
 }
 
-// One cycle, steps 1 to 8.
+// One cycle, steps 1 to 8, with the pin byte as the kind takes it.
 pub fn cycle_once(d: Device, pins: u8) -> Once
     requires { ⌜ accepted d ≡ true ⌝ }
     ensures { λ r. ⌜ r ≡ onceOf pins d ⌝ }
 {
-    let l = pins_of(d.kind, pins);
     let saved = d.levels;
-    let t = timers::timers_step(d.timers, l);
-    let u = timer2::timer2_step(d.timer2, falls(saved, l, T2EX));
-    let k = ticks_in(d, t, u);
+    let c = counted(d, pins);
+    let k = ticks_in(d, c);
     let twice = serial::rolls_twice(k, d.serial);
-    let s = serial::serial_step(k, (l >> RXD) & 1, d.serial);
-    let v = timers_after(saved, l, t.timers);
-    let w = timer2_after(saved, l, u.timer2);
-    let seen = interrupts::seen_of(v.tcon, s.scon, u.timer2.t2con);
-    let now = levels_of(l);
+    let s = serial::serial_step(k, (pins >> RXD) & 1, d.serial);
+    let t = timers_after(saved, pins, c.timers.timers);
+    let u = timer2_after(saved, pins, c.timer2.timer2);
+    let seen = interrupts::seen_of(t.tcon, s.scon, u.t2con);
+    let now = levels_of(pins);
     let number = std::num::wrapping_add_u64(d.cycle, 1);
+    let overflows = overflows_of(c);
     let mut e = d;
     e.interrupts.polled = d.interrupts.seen;
     e.interrupts.seen = seen;
-    e.timers = v;
-    e.timer2 = w;
+    e.timers = t;
+    e.timer2 = u;
     e.serial = s;
     e.levels = now;
     e.cycle = number;
     Once {
         twice: twice,
+        overflows: overflows,
         device: e,
     }
 }

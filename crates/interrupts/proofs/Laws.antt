@@ -1,27 +1,20 @@
--- The code's masks are the definitions' bits: laws for any source or place, and tests computed over all bytes.
+-- The code's masks are the definitions' bits: laws for any source, and tests computed over all bytes.
 use mathlib.Core.Path.{_≡_, refl, sym, ap, _∙_}
-use mathlib.Core.Bool.{Bool, true, false, cond, _&&_, _||_}
-use Prim.Native.Nat.{ℕ, zero, suc, _+_, _-_, _*_, _/_, _%_, _^_, _<_, min}
-use native.Mathlib.Nat.{zero-div, one-mul}
+use mathlib.Core.Bool.{Bool, true, false, cond, _&&_, _||_, and-true, and-false}
+use Prim.Native.Nat.{ℕ, zero, suc, _+_, _*_, _/_, _%_, _<_, min}
+use native.Mathlib.Nat.{zero-div}
 use native.Mathlib.Omega.{arith}
 use lib.Dec.{T, eqb, eqb→eq, eqb·suc-zero, lit<}
 use lib.Bits.{bitAnd, bitOr, and-le-l, and-le-r, mask-lt, or-shifted-r}
 use lib.Count.{trailingZeros}
-use Rattle.laws.proofs.Bits.{bit-below, bit-and, or-bit, clear-bit, shl-bit}
+use Rattle.laws.proofs.Choices.{chosen, cond-ap}
+use Rattle.laws.proofs.Bits.{bit-below, bit-and}
 use Rattle.laws.proofs.Tests.{all, at}
-use Rattle.machine.specs.Bits.{bit, setBit, clearBit}
+use Rattle.machine.specs.Bits.{bit}
 use Rattle.machine.specs.Registers.{IE0, TF0, IE1, TF1, RI, TI, TF2, EXF2, EA}
 use Rattle.machine.specs.declared.Interrupts.{Interrupts}
-use Rattle.machine.specs.Interrupts.{Source, none, source, external, either, seenOf, firstOf, sources, asks, asksMarked, orElse, offered, vectorOf}
+use Rattle.machine.specs.Interrupts.{Source, none, source, either, seenOf, firstOf, sources, asks, asksMarked, orElse, offered, vectorOf}
 use Rattle.interrupts.specs.Number.{numberOf, firstSet}
-
--- IEi by masks, for any place of ITi and IEi
-pub external-by-masks : (it ie fell level tcon tested : ℕ) → ie < 8 → tcon < 256 → tested ≡ bit it tcon
-    → cond (eqb tested 1) (cond (eqb fell 1) (bitOr tcon (2 ^ ie)) tcon)
-    (cond (eqb level 0) (bitOr tcon (2 ^ ie)) (bitAnd tcon (255 - 2 ^ ie)))
-    ≡ external it ie fell level tcon
-unfolding external
-external-by-masks it ie fell level tcon tested h l e = rw (e, or-bit tcon ie, clear-bit ie h tcon l)
 
 -- the four flags of TCON in seen
 flags : ℕ → ℕ
@@ -55,11 +48,7 @@ found a b mask w t x h =
 
 pub either-few : (a b : ℕ) → either a b < 2
 unfolding either
-either-few a b = few (eqb a 1 || eqb b 1)
-  where
-    few : (t : Bool) → cond t 1 0 < 2
-    few true = lit< tt
-    few false = lit< tt
+either-few a b = chosen (λ (n : ℕ). n < 2) (eqb a 1 || eqb b 1) 1 0 (lit< tt) (lit< tt)
 
 stacked : (f a b : ℕ) → f < 16 → a < 2 → b < 2 → bitOr (bitOr f (a * 16)) (b * 32) ≡ f + a * 16 + b * 32
 stacked f a b hf ha hb =
@@ -105,14 +94,6 @@ letBy ie = cond (eqb (bit EA ie) 1) (bitAnd ie 0x3f) 0
 abbrev pub asking : Interrupts → ℕ
 asking i = bitAnd (i .polled) (letBy (i .ie))
 
-and-true : (b : Bool) → b && true ≡ b
-and-true true = refl
-and-true false = refl
-
-and-false : (b : Bool) → b && false ≡ false
-and-false true = refl
-and-false false = refl
-
 set-let : (k ie : ℕ) → bit k 0x3f ≡ 1
     → eqb (bit k (letBy ie)) 1 ≡ eqb (bit k ie) 1 && eqb (bit EA ie) 1
 set-let k ie one = by (eqb (bit EA ie) 1)
@@ -157,21 +138,16 @@ unfolding names is-source firstSet firstOf
 or-else zero b h = refl
 or-else (suc x) b h = rw eqb·suc-zero (stands (firstSet (suc x)) b (at names 64 tt (suc x) h))
 
-cond-set : (t : Bool) (x y : ℕ) → firstSet (cond t x y) ≡ cond t (firstSet x) (firstSet y)
-cond-set true x y = refl
-cond-set false x y = refl
-
 no-source : firstSet 0 ≡ none
 unfolding firstSet firstOf
 no-source = refl
 
-let-few : (t : Bool) (ie : ℕ) → cond t (bitAnd ie 0x3f) 0 < 64
-let-few true ie = mask-lt ie 6
-let-few false ie = lit< tt
+let-few : (ie : ℕ) → letBy ie < 64
+let-few ie = chosen (λ (n : ℕ). n < 64) (eqb (bit EA ie) 1) (bitAnd ie 0x3f) 0 (mask-lt ie 6) (lit< tt)
 
 marked-few : (i : Interrupts) → bitAnd (asking i) (i .ip) < 64
 marked-few i =
-    omega (arith, and-le-l (asking i) (i .ip), and-le-r (i .polled) (letBy (i .ie)), let-few (eqb (bit EA (i .ie)) 1) (i .ie))
+    omega (arith, and-le-l (asking i) (i .ip), and-le-r (i .polled) (letBy (i .ie)), let-few (i .ie))
 
 -- the offer by masks: marked sources before others, none while high is in service, only marked ones while low is
 pub offered-by-masks : (i : Interrupts)
@@ -181,7 +157,7 @@ pub offered-by-masks : (i : Interrupts)
     ≡ offered i
 unfolding offered
 offered-by-masks i =
-    simp (cond-set, no-source, first-set (asksMarked i) (bitAnd (asking i) (i .ip)) (set-marked i), first-set (asks i) (asking i) (set-asking i), or-else (bitAnd (asking i) (i .ip)) (cond (eqb (i .low) 1) none (firstSet (asking i))) (marked-few i))
+    simp (cond-ap firstSet, no-source, first-set (asksMarked i) (bitAnd (asking i) (i .ip)) (set-marked i), first-set (asks i) (asking i) (set-asking i), or-else (bitAnd (asking i) (i .ip)) (cond (eqb (i .low) 1) none (firstSet (asking i))) (marked-few i))
 
 -- the vector by a shift
 steps : ℕ → Bool
@@ -190,8 +166,3 @@ steps k = eqb (bitOr (k * 8 % 256) 0x03) (vectorOf k)
 pub vector-by-shift : (k : ℕ) → k < 6 → bitOr (k * 8 % 256) 0x03 ≡ vectorOf k
 unfolding steps
 vector-by-shift k h = eqb→eq (bitOr (k * 8 % 256) 0x03) (vectorOf k) (at steps 6 tt k h)
-
--- `x & !(1 << k)`
-pub clear-shl : (k x : ℕ) → k < 8 → x < 256 → bitAnd x (255 - 1 * 2 ^ k % 256) ≡ clearBit k x
-clear-shl k x h l =
-    ap (λ (n : ℕ). bitAnd x (255 - n)) (shl-bit 8 k 1 h (lit< tt) ∙ one-mul (2 ^ k)) ∙ clear-bit k h x l

@@ -1,25 +1,19 @@
 -- Each step of the interrupt controller keeps its fields in their ranges, by the cases of its definition.
-use mathlib.Core.Path.{_≡_, refl, subst}
-use mathlib.Core.Bool.{Bool, true, false, cond}
-use Prim.Native.Nat.{ℕ, _+_, _*_, _<_, _≤_}
+use mathlib.Core.Path.{_≡_, refl}
+use mathlib.Core.Bool.{Bool}
+use Prim.Native.Nat.{ℕ, _<_, _≤_}
 use native.Mathlib.Nat.{le-trans, sub-le}
 use native.Mathlib.Omega.{arith}
 use lib.Dec.{eqb, lit<, lit≤}
+use Rattle.laws.specs.Ranges.{InterruptsOk}
 use Rattle.laws.proofs.Choices.{chosen}
 use Rattle.laws.proofs.Bits.{set-lt, clear-lt}
-use Rattle.machine.specs.Bits.{bit, setBit, clearBit}
+use Rattle.machine.specs.Bits.{bit, setBit}
 use Rattle.machine.specs.Registers.{TF0, TF1, IE0, IE1, IT0, IT1, RI, TI, TF2, EXF2}
 use Rattle.machine.specs.declared.Interrupts.{Interrupts}
-use Rattle.machine.specs.Interrupts.{Source, none, source, external, either, seenOf, firstOf, sources, asks, asksMarked, orElse, offered, inService, taken, returned}
+use Rattle.machine.specs.Interrupts.{Source, none, source, external, seenOf, firstOf, sources, asks, asksMarked, orElse, offered, inService, taken, returned}
 use Rattle.interrupts.specs.Number.{numberOf}
 use Rattle.interrupts.proofs.Laws.{either-few}
-
--- the ranges of the hidden fields
-pub record Ranges (i : Interrupts) : Type 0 where
-  pub seen : i .seen ≤ 63
-  pub polled : i .polled ≤ 63
-  pub low : i .low ≤ 1
-  pub high : i .high ≤ 1
 
 abbrev Byte : ℕ → Type 0
 Byte n = n < 256
@@ -50,20 +44,28 @@ seen-most tcon scon t2con =
     omega (arith, either-few (bit RI scon) (bit TI scon), either-few (bit TF2 t2con) (bit EXF2 t2con))
 
 -- a take and a return keep the ranges
-pub in-service-ranges : (k : ℕ) (i : Interrupts) → Ranges i → Ranges (inService k i)
+pub in-service-ok : (kind k : ℕ) (i : Interrupts) → InterruptsOk kind i → InterruptsOk kind (inService k i)
 unfolding inService
-in-service-ranges k i r =
+in-service-ok kind k i r =
     record {
+      ie = r .ie;
+      ieBits = r .ieBits;
+      ip = r .ip;
+      ipBits = r .ipBits;
       seen = le-trans (sub-le (i .seen) _) (r .seen);
       polled = le-trans (sub-le (i .polled) _) (r .polled);
       low = chosen Mark (eqb (bit k (i .ip)) 1) _ _ (r .low) (lit≤ tt);
       high = chosen Mark (eqb (bit k (i .ip)) 1) _ _ (lit≤ tt) (r .high);
     }
 
-pub returned-ranges : (i : Interrupts) → Ranges i → Ranges (returned i)
+pub returned-ok : (kind : ℕ) (i : Interrupts) → InterruptsOk kind i → InterruptsOk kind (returned i)
 unfolding returned
-returned-ranges i r =
+returned-ok kind i r =
     record {
+      ie = r .ie;
+      ieBits = r .ieBits;
+      ip = r .ip;
+      ipBits = r .ipBits;
       seen = r .seen;
       polled = r .polled;
       low = chosen Mark (eqb (i .high) 1) _ _ (r .low) (lit≤ tt);

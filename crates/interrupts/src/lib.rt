@@ -1,68 +1,79 @@
 // The interrupt controller: IE0 and IE1 from their pins, what is seen, the offer, a take and a return.
 ghost use mathlib.Core.Path.{_≡_};
+ghost use mathlib.Core.Bool.{cond};
 ghost use Prim.Native.Nat.{_<_};
-ghost use Rattle.machine.specs.Registers as Registers;
+ghost use lib.Dec.{eqb};
+ghost use Rattle.machine.specs.Bits.{bit, clearBit};
 ghost use Rattle.machine.specs.Interrupts as Interrupt;
 ghost use Rattle.interrupts.specs.Number.{numberOf, firstSet};
+use laws::picked;
 use machine::Interrupts;
 use machine::places::EA;
 use machine::places::IE0;
 use machine::places::IE1;
 use machine::places::IT0;
 use machine::places::IT1;
+use machine::places::SCON_FLAGS;
+use machine::places::SOURCES;
+use machine::places::T2CON_FLAGS;
 use machine::places::TF0;
 use machine::places::TF1;
 
-// TCON with IE0 as the pin INT0 leaves it: on a fall with IT0 = 1, by its level with IT0 = 0.
-pub fn external0(fell: u8, level: u8, tcon: u8) -> u8
-    ensures { λ r. ⌜ r ≡ Interrupt.external Registers.IT0 Registers.IE0 fell level tcon ⌝ }
-{
-    let set = tcon | (1 << IE0);
-    let by_edge = laws::picked(fell == 1, set, tcon);
-    let by_level = laws::picked(level == 0, set, tcon & !(1 << IE0));
-    laws::picked(((tcon >> IT0) & 1) == 1, by_edge, by_level)
-}
+// The bits of the sources in seen: of INT0 and INT1, of Timers 0 and 1, of the serial port and of Timer 2.
+const EXTERNALS: u8 = 0x05;
 
-// The same of IE1, INT1 and IT1.
-pub fn external1(fell: u8, level: u8, tcon: u8) -> u8
-    ensures { λ r. ⌜ r ≡ Interrupt.external Registers.IT1 Registers.IE1 fell level tcon ⌝ }
+const TIMERS: u8 = 0x0a;
+
+const SERIAL: u8 = 0x10;
+
+const TIMER2: u8 = 0x20;
+
+// The number that stands for no source.
+pub const NONE: u8 = 6;
+
+// TCON with IEi as the pin INTi leaves it: on a fall with ITi = 1, by its level with ITi = 0. ITi and IEi are at bits
+// it and ie.
+pub fn external(it: u8, ie: u8, fell: u8, level: u8, tcon: u8) -> u8
+    requires { ⌜ it < 8 ⌝ }
+    requires { ⌜ ie < 8 ⌝ }
+    ensures { λ r. ⌜ r ≡ Interrupt.external it ie fell level tcon ⌝ }
 {
-    let set = tcon | (1 << IE1);
-    let by_edge = laws::picked(fell == 1, set, tcon);
-    let by_level = laws::picked(level == 0, set, tcon & !(1 << IE1));
-    laws::picked(((tcon >> IT1) & 1) == 1, by_edge, by_level)
+    let mask = 1u8 << ie;
+    let by_edge = picked(fell == 1, tcon | mask, tcon);
+    let by_level = picked(level == 0, tcon | mask, tcon & !mask);
+    picked(((tcon >> it) & 1) == 1, by_edge, by_level)
 }
 
 // What seen takes: IE0, TF0, IE1, TF1, RI or TI, TF2 or EXF2, from bit 0. IE0 and IE1 move down by 1, TF0 and TF1 by 4.
 pub fn seen_of(tcon: u8, scon: u8, t2con: u8) -> u8
     ensures { λ r. ⌜ r ≡ Interrupt.seenOf tcon scon t2con ⌝ }
 {
-    let timers = ((tcon >> 1) & 0x05) | ((tcon >> 4) & 0x0a);
-    let serial = laws::picked((scon & 0x03) == 0, 0, 0x10);
-    let timer2 = laws::picked((t2con & 0xc0) == 0, 0, 0x20);
+    let timers = ((tcon >> 1) & EXTERNALS) | ((tcon >> 4) & TIMERS);
+    let serial = picked((scon & SCON_FLAGS) == 0, 0, SERIAL);
+    let timer2 = picked((t2con & T2CON_FLAGS) == 0, 0, TIMER2);
     timers | serial | timer2
 }
 
-// The number of the lowest bit that is set among the six of the sources, and 6 where none is.
+// The number of the lowest bit that is set among the six of the sources, or NONE.
 fn first_of(sources: u8) -> u8
     ensures { λ r. ⌜ r ≡ numberOf (firstSet sources) ⌝ }
 {
-    u8::trailing_zeros(sources | 0x40) as u8
+    u8::trailing_zeros(sources | (1 << NONE)) as u8
 }
 
-// The number of the source that is offered, and 6 where none is.
+// The number of the source that is offered, or NONE.
 pub fn offered(i: Interrupts) -> u8
     ensures { λ r. ⌜ r ≡ numberOf (Interrupt.offered i) ⌝ }
 {
-    let enabled = laws::picked(((i.ie >> EA) & 1) == 1, i.ie & 0x3f, 0);
+    let enabled = picked(((i.ie >> EA) & 1) == 1, i.ie & SOURCES, 0);
     let asking = i.polled & enabled;
     let marked = asking & i.ip;
-    let unmarked = laws::picked(i.low == 1, 0, asking);
-    let chosen = laws::picked(marked == 0, unmarked, marked);
-    first_of(laws::picked(i.high == 1, 0, chosen))
+    let unmarked = picked(i.low == 1, 0, asking);
+    let chosen = picked(marked == 0, unmarked, marked);
+    first_of(picked(i.high == 1, 0, chosen))
 }
 
-// The vector of a source.
+// The vector of a source: 03, and 8 more for each source after the first.
 pub fn vector_of(k: u8) -> u8
     requires { ⌜ k < 6 ⌝ }
     ensures { λ r. ⌜ r ≡ Interrupt.vectorOf k ⌝ }
@@ -82,9 +93,18 @@ pub fn in_service(k: u8, i: Interrupts) -> Interrupts
         ip: i.ip,
         seen: i.seen & others,
         polled: i.polled & others,
-        low: laws::picked(marked, i.low, 1),
-        high: laws::picked(marked, 1, i.high),
+        low: picked(marked, i.low, 1),
+        high: picked(marked, 1, i.high),
     }
+}
+
+// TCON after a take of an external source: IEi is cleared if ITi = 1. ITi and IEi are at bits it and ie.
+fn edge_taken(it: u8, ie: u8, tcon: u8) -> u8
+    requires { ⌜ it < 8 ⌝ }
+    requires { ⌜ ie < 8 ⌝ }
+    ensures { λ r. ⌜ r ≡ cond (eqb (bit it tcon) 1) (clearBit ie tcon) tcon ⌝ }
+{
+    picked(((tcon >> it) & 1) == 1, tcon & !(1 << ie), tcon)
 }
 
 // TCON after a take of the source k: a timer's TFi is cleared, an external source's IEi if its ITi = 1.
@@ -92,9 +112,9 @@ pub fn taken(k: u8, tcon: u8) -> u8
     ensures { λ r. ⌜ r ≡ Interrupt.taken k tcon ⌝ }
 {
     match k {
-        0 => laws::picked(((tcon >> IT0) & 1) == 1, tcon & !(1 << IE0), tcon),
+        0 => edge_taken(IT0, IE0, tcon),
         1 => tcon & !(1 << TF0),
-        2 => laws::picked(((tcon >> IT1) & 1) == 1, tcon & !(1 << IE1), tcon),
+        2 => edge_taken(IT1, IE1, tcon),
         3 => tcon & !(1 << TF1),
         _ => tcon,
     }
@@ -116,7 +136,7 @@ pub fn returned(i: Interrupts) -> Interrupts
         ip: i.ip,
         seen: i.seen,
         polled: i.polled,
-        low: laws::picked(i.high == 1, i.low, 0),
+        low: picked(i.high == 1, i.low, 0),
         high: 0,
     }
 }

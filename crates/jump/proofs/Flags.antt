@@ -1,8 +1,8 @@
--- The flags that rise, by masks: bit k of `(255 - before) & after` is 1 where bit k rises, and of these the flags are masked out; by
--- the law of a bit of a mask, and by a test at each of the 256 bytes.
+-- The flags that rise, by masks: bit k of `!before & after` is 1 where bit k rises, and of these the flags are masked out;
+-- by the law of a bit of a mask, and by a test at each of the 256 bytes.
 use Prim.Native.Nat.{ℕ, zero, suc, _-_, _<_, _≤_, min}
 use mathlib.Core.Path.{_≡_, refl, sym, ap, _∙_}
-use mathlib.Core.Bool.{Bool, true, false, cond, _&&_, _||_, not, or-false}
+use mathlib.Core.Bool.{Bool, true, false, _&&_, _||_, not, or-false}
 use native.Mathlib.Omega.{arith}
 use lib.Dec.{eqb, eqb→eq, T, lit<}
 use lib.Bits.{bitAnd, and-le-l}
@@ -11,7 +11,7 @@ use Rattle.laws.proofs.Tests.{all, at}
 use Rattle.machine.specs.declared.Device.{Device}
 use Rattle.machine.specs.Bits.{bit}
 use Rattle.machine.specs.Registers.{TF0, TF1, IE0, IE1, RI, TI, TF2, EXF2}
-use Rattle.machine.specs.Calls.{flags, anyRises}
+use Rattle.machine.specs.Flags.{flags, anyRises}
 
 -- bit k is 0 before and 1 after
 abbrev up : ℕ → ℕ → ℕ → Bool
@@ -21,7 +21,7 @@ up k before after = eqb (bit k before) 0 && eqb (bit k after) 1
 abbrev risen : ℕ → ℕ → ℕ
 risen before after = bitAnd (255 - before) after
 
--- the bits of 255 - x
+-- the bits of a complement, 255 - x
 differs : ℕ → ℕ → Bool
 differs k x = eqb (bit k (255 - x)) (1 - bit k x)
 

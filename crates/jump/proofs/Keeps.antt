@@ -1,38 +1,26 @@
--- Runs of cycles from an accepted device: it stays accepted, and none is refused by 9; by the laws of one cycle and induction.
-use Prim.Native.Nat.{ℕ, zero, suc, _<_}
+-- Runs of cycles from an accepted device: it stays accepted, and none is refused by 9; by the laws of one cycle and
+-- induction.
+use Prim.Native.Nat.{ℕ, zero, suc}
 use mathlib.Core.Path.{_≡_, refl, ap, _∙_}
-use mathlib.Core.Bool.{Bool, true, false, _||_}
+use mathlib.Core.Bool.{true, false}
 use mathlib.Core.List.{List, [], _∷_}
-use native.Mathlib.Omega.{arith}
 use Rattle.machine.specs.declared.Device.{Device}
-use Rattle.machine.specs.Record.{accepted}
-use Rattle.machine.specs.Cycle.{cycleOf, refused9, cycles, anyRefused9}
+use Rattle.machine.specs.Record.{accepted, pinsOf}
+use Rattle.machine.specs.Cycle.{cycleOf, cycles, anyRefused9}
 use Rattle.machine.specs.Calls.{entryPins, entryCycles, traceCycles, traceRefused9}
-use Rattle.registers.specs.Ranges.{Ranges}
-use Rattle.registers.proofs.Accepted.{ranges-of}
+use Rattle.registers.proofs.Accepted.{ranges-of, accepted-of}
 use Rattle.cycle.proofs.Keeps.{never9, cycle-accepted}
-use Rattle.strides.proofs.Strides.{Bounded}
-
--- the bounds that the laws of strides ask for
-pub bounded : (d : Device) → accepted d ≡ true → Bounded d
-bounded d a = go (ranges-of d a)
-  where
-    go : Ranges d → Bounded d
-    go r =
-        record {
-          tl0 = r .timers .tl0;
-          tl1 = r .timers .tl1;
-          tl2 = r .timer2 .tl2;
-          counter = omega (arith, r .serial .send .counter);
-          half = omega (arith, r .serial .half);
-          cycle = r .cycle;
-        }
+use Rattle.strides.proofs.Runs.{cycles-kind, cycles-ranges}
+use Rattle.jump.specs.Rounds.{Ready}
 
 -- n cycles keep an accepted device accepted
 pub cycles-accepted : (n pins : ℕ) (d : Device) → accepted d ≡ true → accepted (cycles n pins d) ≡ true
-unfolding cycles
-cycles-accepted zero pins d a = a
-cycles-accepted (suc n) pins d a = cycles-accepted n pins (cycleOf pins d) (cycle-accepted pins d a)
+cycles-accepted n pins d a = accepted-of (cycles n pins d) (cycles-ranges n pins d (ranges-of d a))
+
+-- and the pin byte as its kind takes it
+pub cycles-ready : (n pins : ℕ) (d : Device) → Ready pins d → Ready pins (cycles n pins d)
+cycles-ready n pins d r =
+    record { good = cycles-accepted n pins d (r .good); taken = ap (λ (k : ℕ). pinsOf k pins) (cycles-kind n pins d) ∙ r .taken }
 
 -- none of n cycles is refused by 9
 pub none-refused9 : (n pins : ℕ) (d : Device) → accepted d ≡ true → anyRefused9 n pins d ≡ false

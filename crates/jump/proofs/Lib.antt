@@ -1,5 +1,7 @@
+pub mod Taken
 pub mod Keeps
 pub mod Idles
 pub mod Flags
 pub mod Rounds
 pub mod Traces
+pub mod Busy

@@ -1,36 +1,47 @@
--- The rounds of a jump and of a look ahead: what code makes of a round is one, and what it leaves of the cycles to make; by the laws
--- of strides and of a cycle.
+-- The rounds of a jump and of a look ahead: what code makes of a round is one, and what it leaves of the cycles to make;
+-- by the laws of strides and of a cycle.
 use Prim.Native.Nat.{ℕ, zero, suc, _+_, _-_, _≤_, _<_, min}
 use mathlib.Core.Path.{_≡_, refl, sym, ap, _∙_, subst}
-use mathlib.Core.Bool.{Bool, true, false, cond, _||_, or-false}
+use mathlib.Core.Bool.{true, false, or-false}
 use native.Mathlib.Omega.{arith}
-use lib.Dec.{eqb}
 use borrow.Author.Tests.{eq-eqb, ne-eqb}
 use Rattle.machine.specs.declared.Device.{Device}
 use Rattle.machine.specs.declared.LookAnswer.{LookAnswer}
 use Rattle.machine.specs.declared.LookAnswer.the-variants.{At}
-use Rattle.machine.specs.Record.{accepted, pinsOf}
-use Rattle.machine.specs.Cycle.{cycleOf, refused9, cycles, anyRefused9}
-use Rattle.machine.specs.Calls.{flags, anyRises, firstRise}
+use Rattle.machine.specs.Record.{accepted}
+use Rattle.machine.specs.Flags.{flags, anyRises}
+use Rattle.machine.specs.Cycle.{steps, cycleOf, refused9, cycles, anyRefused9}
+use Rattle.machine.specs.Calls.{firstRise}
+use Rattle.laws.specs.Ranges.{Ranges}
+use Rattle.registers.proofs.Accepted.{ranges-of}
 use Rattle.cycle.specs.declared.Once.{Once}
 use Rattle.cycle.specs.Once.{onceOf}
 use Rattle.strides.specs.Stride.{room, roomAt, stride, strideAt, strideTimers, stride2, strideSerial}
-use Rattle.strides.proofs.Strides.{Bounded, quiet-cycle, stride-law}
+use Rattle.strides.proofs.Strides.{quiet-cycle, stride-law}
 use Rattle.strides.proofs.Runs.{cycles-one, crossed-on}
 use Rattle.strides.proofs.Rises.{quiet-still, on-here, on-one, on-stride}
 use Rattle.jump.specs.declared.Round.{Round}
 use Rattle.jump.specs.declared.Ran.{Ran}
-use Rattle.jump.specs.Rounds.{usedIn, Crossed, Advanced}
-use Rattle.jump.proofs.Keeps.{bounded, cycles-accepted, none-refused9}
+use Rattle.jump.specs.Rounds.{Ready, usedIn, Crossed, Advanced}
+use Rattle.jump.proofs.Keeps.{cycles-accepted, cycles-ready, none-refused9}
 
--- the room and the stride, with the pin byte as the kind takes it
-pub room-is : (pins : ℕ) (d : Device) {l n : ℕ} → l ≡ pinsOf (d .kind) pins → n ≡ roomAt l d → n ≡ room pins d
-unfolding room
-room-is pins d e f = f ∙ ap (λ (l : ℕ). roomAt l d) e
+-- the room, the stride and the cycle, with the pin byte as the kind takes it
+module _ (pins : ℕ) (d : Device) (r : Ready pins d) where
+  pub room-is : {n : ℕ} → n ≡ roomAt pins d → n ≡ room pins d
+  unfolding room
+  room-is e = e ∙ ap (λ (l : ℕ). roomAt l d) (sym (r .taken))
 
-pub stride-is : (m pins : ℕ) (d : Device) {l : ℕ} {u : Device} → l ≡ pinsOf (d .kind) pins → u ≡ strideAt m l d → u ≡ stride m pins d
-unfolding stride
-stride-is m pins d e f = f ∙ ap (λ (l : ℕ). strideAt m l d) e
+  pub stride-is : (m : ℕ) {u : Device} → u ≡ strideAt m pins d → u ≡ stride m pins d
+  unfolding stride
+  stride-is m e = e ∙ ap (λ (l : ℕ). strideAt m l d) (sym (r .taken))
+
+  cycle-is : steps d pins ≡ cycleOf pins d
+  unfolding cycleOf
+  cycle-is = ap (steps d) (sym (r .taken))
+
+  refused-is : onceOf pins d .twice ≡ refused9 pins d
+  unfolding refused9
+  refused-is = ap (λ (l : ℕ). onceOf l d .twice) (sym (r .taken))
 
 -- one cycle is refused where the cycle is
 one-refused9 : (pins : ℕ) (d : Device) → anyRefused9 1 pins d ≡ refused9 pins d
@@ -38,22 +49,22 @@ unfolding anyRefused9
 one-refused9 pins d = or-false (refused9 pins d)
 
 module _ (pins left : ℕ) (d : Device) where
-  used-busy : room pins d ≡ 0 → usedIn pins left d ≡ 1
+  pub used-busy : room pins d ≡ 0 → usedIn pins left d ≡ 1
   unfolding usedIn
   used-busy z = simp (eq-eqb (room pins d) 0 z)
 
-  used-quiet : 1 ≤ room pins d → usedIn pins left d ≡ min (room pins d) left
+  pub used-quiet : 1 ≤ room pins d → usedIn pins left d ≡ min (room pins d) left
   unfolding usedIn
   used-quiet h = simp (ne-eqb (room pins d) 0 (λ e. omega arith))
 
   -- no room: a round is the next cycle
-  pub round-busy : {o : Once} → o ≡ onceOf pins d → room pins d ≡ 0
+  pub round-busy : {o : Once} → Ready pins d → o ≡ onceOf pins d → room pins d ≡ 0
       → Crossed pins left d (record { twice = o .twice; used = 1; device = o .device })
-  round-busy e z =
+  round-busy r e z =
       record {
         used = sym (used-busy z);
-        reaches = ap (λ (o : Once). o .device) e ∙ sym (cycles-one pins d);
-        refused = ap (λ (o : Once). o .twice) e ∙ sym (one-refused9 pins d);
+        reaches = ap (λ (o : Once). o .device) e ∙ (cycle-is pins d r ∙ sym (cycles-one pins d));
+        refused = ap (λ (o : Once). o .twice) e ∙ (refused-is pins d r ∙ sym (one-refused9 pins d));
       }
 
   -- room: a round is a stride
@@ -62,37 +73,30 @@ module _ (pins left : ℕ) (d : Device) where
   round-quiet {m} a h e f =
       record {
         used = e ∙ sym (used-quiet h);
-        reaches = f ∙ sym (stride-law m pins d (bounded d a) (omega arith));
+        reaches = f ∙ sym (stride-law m pins d (ranges-of d a) (omega arith));
         refused = sym (none-refused9 m pins d a);
       }
 
 -- a round of the cycles that are left
 module _ (pins left : ℕ) (d : Device) {r : Round} (c : Crossed pins left d r) (some : 1 ≤ left) where
   -- it has at least one cycle, and at most those that are left
-  pub round-some : 1 ≤ r .used
-  round-some = go (room pins d) refl
+  pub round-used : (1 ≤ r .used) × (r .used ≤ left)
+  round-used = go (room pins d) refl
     where
-      go : (k : ℕ) → room pins d ≡ k → 1 ≤ r .used
+      go : (k : ℕ) → room pins d ≡ k → (1 ≤ r .used) × (r .used ≤ left)
       go zero e = omega (arith, c .used, used-busy pins left d e)
       go (suc k) e = omega (arith, c .used, used-quiet pins left d (omega arith))
 
-  pub round-within : r .used ≤ left
-  round-within = go (room pins d) refl
-    where
-      go : (k : ℕ) → room pins d ≡ k → r .used ≤ left
-      go zero e = omega (arith, c .used, used-busy pins left d e)
-      go (suc k) e = omega (arith, c .used, used-quiet pins left d (omega arith))
-
-  -- it leaves an accepted device accepted, and is not refused
-  pub round-accepted : accepted d ≡ true → accepted (r .device) ≡ true
-  round-accepted a = ap accepted (c .reaches) ∙ cycles-accepted (r .used) pins d a
+  -- it leaves the device ready, and is not refused
+  pub round-ready : Ready pins d → Ready pins (r .device)
+  round-ready y = subst (Ready pins) (sym (c .reaches)) (cycles-ready (r .used) pins d y)
 
   pub round-passes : accepted d ≡ true → r .twice ≡ false
   round-passes a = c .refused ∙ none-refused9 (r .used) pins d a
 
   -- the cycles that it leaves end where all of them end
   pub round-on : {v : Device} → cycles left pins d ≡ v → cycles (left - r .used) pins (r .device) ≡ v
-  round-on i = crossed-on pins d round-within (c .reaches) i
+  round-on i = crossed-on pins d (round-used .1) (c .reaches) i
 
 -- a run of cycles from an accepted device: it passes, reaches where the cycles end, and leaves the device accepted
 module _ (n pins : ℕ) (d : Device) {r : Ran} (c : Advanced n pins d r) (a : accepted d ≡ true) where
@@ -106,12 +110,12 @@ module _ (n pins : ℕ) (d : Device) {r : Ran} (c : Advanced n pins d r) (a : ac
   run-accepted = ap accepted run-reaches ∙ cycles-accepted n pins d a
 
 -- no flag rises over a quiet run
-quiet-rises : (m pins : ℕ) (d : Device) → Bounded d → 1 ≤ room pins d → m ≤ room pins d
+quiet-rises : (m pins : ℕ) (d : Device) → Ranges d → 1 ≤ room pins d → m ≤ room pins d
     → anyRises (flags d) (flags (cycles m pins d)) ≡ false
 unfolding flags stride strideAt strideTimers stride2 strideSerial
-quiet-rises m pins d b h k =
-    ap (λ (u : Device). anyRises (flags d) (flags u)) (stride-law m pins d b k)
-    ∙ (sym (ap (λ (u : Device). anyRises (flags d) (flags u)) (quiet-cycle pins d b h)) ∙ quiet-still pins d b h)
+quiet-rises m pins d r h k =
+    ap (λ (u : Device). anyRises (flags d) (flags u)) (stride-law m pins d r k)
+    ∙ (sym (ap (λ (u : Device). anyRises (flags d) (flags u)) (quiet-cycle pins d r h)) ∙ quiet-still pins d r h)
 
 -- A round of a look ahead, after k of its n cycles
 module _ (k n pins : ℕ) (d : Device) (h : k < n) {r : Round} (c : Crossed pins (n - k) d r) where
@@ -128,7 +132,7 @@ module _ (k n pins : ℕ) (d : Device) (h : k < n) {r : Round} (c : Crossed pins
           ap (λ (m : ℕ). At (k + m)) (c .used ∙ used-busy pins (n - k) d z) ∙ on-here k n pins d inv h (busy-cycle z) e
       go (suc m) z =
           let q = used-quiet pins (n - k) d (omega arith) in
-          let s = quiet-rises (r .used) pins d (bounded d a) (omega arith) (omega (arith, c .used)) in
+          let s = quiet-rises (r .used) pins d (ranges-of d a) (omega arith) (omega (arith, c .used)) in
           let f = ap (λ (u : Device). anyRises (flags d) (flags u)) (c .reaches) in
           let z : _≡_ {A = ℕ} 0 1 = cc in
           absurd (omega arith)
@@ -144,4 +148,4 @@ module _ (k n pins : ℕ) (d : Device) (h : k < n) {r : Round} (c : Crossed pins
           ∙ on-one k n pins d inv h (busy-cycle z) e
       go (suc m) z =
           let q = used-quiet pins (n - k) d (omega arith) in
-          on-stride k n pins d inv (r .used) (bounded d a) (omega (arith, c .used)) (omega (arith, c .used)) (c .reaches)
+          on-stride k n pins d inv (r .used) (ranges-of d a) (omega (arith, c .used)) (omega (arith, c .used)) (c .reaches)

@@ -1,30 +1,21 @@
 -- A trace from its entry i on: what checking and running one entry leaves.
 use Prim.Native.Nat.{ℕ, suc, _+_, _≤_, _<_}
-use mathlib.Core.Path.{_≡_, refl, sym, ap, _∙_}
-use mathlib.Core.Bool.{Bool, true, false, cond}
-use mathlib.Core.List.{List, [], _∷_}
+use mathlib.Core.Path.{_≡_, refl, ap, _∙_}
+use mathlib.Core.Bool.{cond}
+use mathlib.Core.List.{List, _∷_}
 use native.Mathlib.Numerals.{add-one}
-use native.Mathlib.Omega.{arith}
 use borrow.Author.Tests.{eq-eqb, ne-eqb}
 use lib.Dec.{eqb}
 use lib.ListN.{length, drop, getD, drop-of-length-le}
 use lib.Seq.{drop-cons}
 use Rattle.machine.specs.declared.Device.{Device}
-use Rattle.machine.specs.Record.{pinsOk}
 use Rattle.machine.specs.Cycle.{cycles}
-use Rattle.machine.specs.Calls.{entryPins, entryCycles, firstBad, traceCycles}
-use Rattle.jump.specs.Rounds.{entryFault}
+use Rattle.machine.specs.Calls.{entryPins, entryCycles, entryFault, firstBad, traceCycles}
 
 -- the first bad entry's number is that of the first entry, or else of the others
 bad-first : (e : ℕ) (es : List ℕ) → firstBad (e ∷ es) ≡ cond (eqb (entryFault e) 0) (firstBad es) (entryFault e)
-unfolding firstBad entryFault
-bad-first e es = go (pinsOk (entryPins e)) (eqb (entryCycles e) 0)
-  where
-    go : (p z : Bool)
-        → cond p (cond z 8 (firstBad es)) 4 ≡ cond (eqb (cond p (cond z 8 0) 4) 0) (firstBad es) (cond p (cond z 8 0) 4)
-    go true true = refl
-    go true false = refl
-    go false z = refl
+unfolding firstBad
+bad-first e es = refl
 
 -- the entries of a trace from the first on
 run-first : (e : ℕ) (es : List ℕ) (d : Device) → traceCycles (e ∷ es) d ≡ traceCycles es (cycles (entryCycles e) (entryPins e) d)

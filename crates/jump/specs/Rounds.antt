@@ -1,20 +1,26 @@
 -- What a round of a jump passes, and what the rounds of a jump and of a trace come to.
-use Prim.Native.Nat.{ℕ, min}
+use Prim.Native.Nat.{ℕ, _<_, _≤_}
 use mathlib.Core.Path.{_≡_}
-use mathlib.Core.Bool.{false, cond}
+use mathlib.Core.Bool.{true, false}
 use mathlib.Core.List.{List}
-use lib.Dec.{eqb}
+use mathlib.Core.Logic.{_⊎_}
 use Rattle.machine.specs.declared.Device.{Device}
-use Rattle.machine.specs.Record.{pinsOk}
+use Rattle.machine.specs.Record.{accepted, pinsOf}
 use Rattle.machine.specs.Cycle.{cycles, anyRefused9}
-use Rattle.machine.specs.Calls.{entryPins, entryCycles, traceCycles, traceRefused9}
-use Rattle.strides.specs.Stride.{room}
+use Rattle.machine.specs.Calls.{traceCycles, traceRefused9}
+use Rattle.strides.specs.Busy.{busy}
+use Rattle.strides.specs.Stride.{room, usedOf}
 use Rattle.jump.specs.declared.Round.{Round}
 use Rattle.jump.specs.declared.Ran.{Ran}
 
--- the cycles of a round: one where the next is busy, otherwise the quiet run or what is left of the jump
+-- what cycles are made of: a record that is accepted, and a pin byte as its kind takes it
+pub record Ready (pins : ℕ) (d : Device) : Type 0 where
+  pub good : accepted d ≡ true
+  pub taken : pinsOf (d .kind) pins ≡ pins
+
+-- the cycles of a round
 unfoldable pub usedIn : ℕ → ℕ → Device → ℕ
-usedIn pins left d = cond (eqb (room pins d) 0) 1 (min (room pins d) left)
+usedIn pins left d = usedOf (room pins d) left
 
 -- a round has just these cycles, ends where they end, and says whether one of them is refused
 pub record Crossed (pins left : ℕ) (d : Device) (r : Round) : Type 0 where
@@ -32,6 +38,20 @@ pub record Traced (es : List ℕ) (d : Device) (r : Ran) : Type 0 where
   pub refused : r .twice ≡ traceRefused9 es d
   pub reaches : r .twice ≡ false → r .device ≡ traceCycles es d
 
--- the number by which a trace entry is refused, 4 before 8, or 0
-unfoldable pub entryFault : ℕ → ℕ
-entryFault e = cond (pinsOk (entryPins e)) (cond (eqb (entryCycles e) 0) 8 0) 4
+-- Rounds as request Nine counts them: so many of the cycles that are left are one busy cycle, or a longest run of others
+
+-- one busy cycle
+pub record BusyCycle (pins : ℕ) (d : Device) (used : ℕ) : Type 0 where
+  pub one : used ≡ 1
+  pub busy : busy pins d ≡ true
+
+-- cycles that are not busy, to the end of those that are left or up to a busy one
+pub record QuietRun (pins left : ℕ) (d : Device) (used : ℕ) : Type 0 where
+  pub some : 1 ≤ used
+  pub within : used ≤ left
+  pub quiet : (j : ℕ) → j < used → busy pins (cycles j pins d) ≡ false
+  pub ends : (used ≡ left) ⊎ (busy pins (cycles used pins d) ≡ true)
+
+-- either
+abbrev pub RoundOf : ℕ → ℕ → Device → ℕ → Type 0
+RoundOf pins left d used = BusyCycle pins d used ⊎ QuietRun pins left d used

@@ -1,14 +1,23 @@
-// Jumps by rounds: a round is one busy cycle, or one stride over the quiet run ahead. Jump, trace run and look ahead go by the same rounds.
+// Jumps by rounds: a round is one busy cycle, or one stride over the quiet run ahead. Jump, trace run and look ahead go by
+// the same rounds. `pins` is the pin byte as the kind takes it.
 ghost use mathlib.Core.Path.{_≡_};
 ghost use mathlib.Core.Bool.{true, false};
 ghost use Prim.Native.Nat.{_≤_};
 ghost use Rattle.machine.specs.Record.{accepted};
-ghost use Rattle.machine.specs.Calls.{longest, entryPins, entryCycles, traceFault, flags, anyRises, firstRise};
-ghost use Rattle.jump.specs.Rounds.{entryFault, Crossed, Advanced, Traced};
+ghost use Rattle.machine.specs.Flags.{flags, anyRises};
+ghost use Rattle.machine.specs.Calls.{longest, entryPins, entryCycles, entryFault, traceFault, firstRise};
+ghost use Rattle.jump.specs.Rounds.{Ready, Crossed, Advanced, Traced};
 use laws::least;
 use machine::Device;
 use machine::LookAnswer;
 use machine::MOST_ENTRIES;
+use machine::places::SCON_FLAGS;
+use machine::places::T2CON_FLAGS;
+use machine::places::TCON_FLAGS;
+use machine::refusals::BAD_PINS;
+use machine::refusals::EMPTY_ENTRY;
+use machine::refusals::PASSED;
+use machine::refusals::TOO_LONG;
 
 // What a round passes: whether a cycle of it is refused by 9, how many cycles it has, and the device after them.
 pub struct Round {
@@ -19,11 +28,10 @@ pub struct Round {
 
 // One round of the cycles that are left: a single cycle where the next is busy, otherwise a stride over the quiet run.
 fn one_round(d: Device, pins: u8, left: u64) -> Round
-    requires { ⌜ (accepted d ≡ true) × (1 ≤ left) × (left ≤ longest) ⌝ }
+    requires { ⌜ Ready pins d × (1 ≤ left) × (left ≤ longest) ⌝ }
     ensures { λ r. ⌜ Crossed pins left d r ⌝ }
 {
-    let l = cycle::pins_of(d.kind, pins);
-    let most = quiet::room(d, l);
+    let most = quiet::room(d, pins);
     if most == 0 {
         let once = cycle::cycle_once(d, pins);
         let e = once.device;
@@ -37,7 +45,7 @@ fn one_round(d: Device, pins: u8, left: u64) -> Round
         Round {
             twice: false,
             used: used,
-            device: quiet::stride(d, l, used),
+            device: quiet::stride(d, pins, used),
         }
     }
 }
@@ -48,20 +56,19 @@ pub struct Ran {
     pub device: Device,
 }
 
-// n cycles with one pin byte, round by round. Where Timer 1's reload is all that happens from here on, the rounds go by its few
-// fields alone.
+// n cycles with one pin byte, round by round. Where Timer 1's reload is all that happens from here on, the rounds go by its
+// few fields alone.
 pub fn advance(d: Device, pins: u8, n: u64) -> Ran
-    requires { ⌜ (accepted d ≡ true) × (n ≤ longest) ⌝ }
+    requires { ⌜ Ready pins d × (n ≤ longest) ⌝ }
     ensures { λ r. ⌜ Advanced n pins d r ⌝ }
 {
     let mut at = d;
     let mut left = n;
     while 0 < left {
-        let l = cycle::pins_of(at.kind, pins);
-        if reload::idles(at, l) {
+        if reload::idles(at, pins) {
             return Ran {
                 twice: false,
-                device: reload::idle(at, l, left),
+                device: reload::idle(at, pins, left),
             };
         }
         let r = one_round(at, pins, left);
@@ -84,22 +91,22 @@ pub fn advance(d: Device, pins: u8, n: u64) -> Ran
 fn rose(before: Device, after: Device) -> bool
     ensures { λ r. ⌜ r ≡ anyRises (flags before) (flags after) ⌝ }
 {
-    let tcon = ((255 - before.timers.tcon) & after.timers.tcon) & 0xaa;
-    let scon = ((255 - before.serial.scon) & after.serial.scon) & 0x03;
-    let t2con = ((255 - before.timer2.t2con) & after.timer2.t2con) & 0xc0;
+    let tcon = (!before.timers.tcon & after.timers.tcon) & TCON_FLAGS;
+    let scon = (!before.serial.scon & after.serial.scon) & SCON_FLAGS;
+    let t2con = (!before.timer2.t2con & after.timer2.t2con) & T2CON_FLAGS;
     (!(tcon == 0) | !(scon == 0)) | !(t2con == 0)
 }
 
-// The first of n cycles in which a flag rises, or none, by the same rounds. Where Timer 1's reload is all that happens, none rises.
+// The first of n cycles in which a flag rises, or none, by the same rounds. Where Timer 1's reload is all that happens,
+// none rises.
 pub fn first_rise(d: Device, pins: u8, n: u64) -> LookAnswer
-    requires { ⌜ (accepted d ≡ true) × (n ≤ longest) ⌝ }
+    requires { ⌜ Ready pins d × (n ≤ longest) ⌝ }
     ensures { λ r. ⌜ r ≡ firstRise 0 n pins d ⌝ }
 {
     let mut at = d;
     let mut done = 0;
     while done < n {
-        let l = cycle::pins_of(at.kind, pins);
-        if reload::idles(at, l) {
+        if reload::idles(at, pins) {
             return LookAnswer::Nothing;
         }
         let r = one_round(at, pins, n - done);
@@ -133,7 +140,8 @@ fn entry_fault(e: u32) -> u8
 {
     let pins = entry_pins(e);
     let cycles = entry_cycles(e);
-    laws::picked(pins < 128, laws::picked(cycles == 0, 8, 0), 4)
+    let of_cycles = laws::picked(cycles == 0, EMPTY_ENTRY, PASSED);
+    laws::picked(pins < 128, of_cycles, BAD_PINS)
 }
 
 // The number by which a trace is refused, or 0: 5 goes first, then its first bad entry.
@@ -141,20 +149,20 @@ pub fn trace_fault(entries: &[u32]) -> u8
     ensures { λ r. ⌜ r ≡ traceFault (now (entries .entry)) ⌝ }
 {
     if MOST_ENTRIES < entries.len() {
-        return 5;
+        return TOO_LONG;
     }
     let mut i = 0;
     while i < entries.len() {
         let bad = entry_fault(entries[i]);
-        if bad != 0 {
+        if bad != PASSED {
             return bad;
         }
         i += 1;
     }
-    0
+    PASSED
 }
 
-// The cycles of each entry in turn.
+// The cycles of each entry in turn, with its pin byte as it is given.
 pub fn run_entries(d: Device, entries: &[u32]) -> Ran
     requires { ⌜ accepted d ≡ true ⌝ }
     ensures { λ r. ⌜ Traced (now (entries .entry)) d r ⌝ }
@@ -163,7 +171,8 @@ pub fn run_entries(d: Device, entries: &[u32]) -> Ran
     let mut i = 0;
     while i < entries.len() {
         let e = entries[i];
-        let a = advance(at, entry_pins(e), entry_cycles(e));
+        let pins = cycle::pins_of(at.kind, entry_pins(e));
+        let a = advance(at, pins, entry_cycles(e));
         if a.twice {
             return Ran {
                 twice: true,

@@ -1,18 +1,18 @@
--- Laws of single bits and fields, for any place: the code's masks and shifts are the definitions' bits, and what setting, clearing and
--- putting a bit leaves; by the kit's laws of masks, and by taking a number apart at the bit.
+-- Laws of single bits and fields, for any place: the code's masks and shifts are the definitions' bits, and what
+-- setting, clearing and putting a bit leaves; by the kit's laws of masks, and by taking a number apart at the bit.
 use mathlib.Core.Path.{_≡_, refl, sym, ap, ap₂, _∙_, subst}
 use mathlib.Core.Bool.{Bool, true, false}
 use mathlib.Core.Logic.{_≢_}
-use Prim.Native.Nat.{ℕ, zero, suc, _+_, _-_, _*_, _/_, _%_, _^_, _<_, _≤_, zero-le, min}
-use native.Mathlib.Nat.{pow-suc, mod-lt, zero-lt-suc, mod-eq-of-lt, one-mul, div-one, div-eq-of-lt, le-trans, div-add-mod', div-lt-iff-lt-mul, mod-mod, suc-mul, zero-mul}
+use Prim.Native.Nat.{ℕ, zero, suc, _+_, _-_, _*_, _/_, _%_, _^_, _<_, _≤_, min}
+use native.Mathlib.Nat.{pow-suc, mod-lt, zero-lt-suc, mod-eq-of-lt, one-mul, div-one, div-add-mod', div-lt-iff-lt-mul, mod-mod, suc-mul, zero-mul}
 use native.Mathlib.Numerals.{one-add}
 use native.Mathlib.Omega.{arith}
 use lib.Dec.{eqb, ltb}
 use borrow.Author.Tests.{ltb-true, ltb-false}
 use lib.Pow as P
-use lib.Pow.{pow-lt, pow-mono, pow-pos, pow-add, split, high, low, mod-mod-pow, shl-exact, shr-lt, shr-shr, ones-lt, suc-ones}
+use lib.Pow.{pow-lt, pow-pos, pow-add, split, high, low, mod-mod-pow, shl-exact, shr-lt, shr-mod, shr-shr, ones-lt, suc-ones}
 use lib.Arith.{bin-ind, digits-mod}
-use lib.Bits.{bitAnd, bitOr, and-mask, and-high, and-step, and-shr, and-mod, and-block, and-self, and-zero-r, and-le-r, mask-lt, or-add-and, or-shifted, or-shifted-r, or-zero-r}
+use lib.Bits.{bitAnd, bitOr, and-mask, and-high, and-step, and-shr, and-block, and-self, and-zero-r, and-le-r, or-add-and, or-shifted, or-zero-r}
 use Rattle.machine.specs.Bits.{bit, setBit, clearBit, putBit, field}
 use Rattle.machine.specs.Timers.{flagged}
 use Rattle.laws.proofs.Choices.{chosen}
@@ -49,9 +49,16 @@ or-shl x k h =
     ap (bitOr x) (ap (λ (n : ℕ). n % 256) (one-mul (2 ^ k)) ∙ mod-eq-of-lt {n = 2 ^ k} {m = 256} (pow-lt {i = k} {j = 8} h))
     ∙ or-bit x k
 
--- `(th << 8) | tl` in 16 bits
-pub join16 : (th tl : ℕ) → th < 256 → tl < 256 → bitOr (th * 2 ^ 8 % 2 ^ 16) tl ≡ th * 256 + tl
-join16 th tl h l = rw (mod-eq-of-lt {n = th * 256} {m = 65536} (omega arith)) (or-shifted th 8 tl l)
+-- a register pair in 16 bits, k of them in the low register: `(high << k) | low`
+pub join : (k high low : ℕ) → k ≤ 8 → high < 256 → low < 2 ^ k → bitOr (high * 2 ^ k % 2 ^ 16) low ≡ high * 2 ^ k + low
+join k high low h u l = ap (λ (n : ℕ). bitOr n low) (shl-exact {a = high} 8 k 16 u (omega arith)) ∙ or-shifted high k low l
+
+-- the low k bits of a register of j + k bits put anew, the others kept: `(x & (ones << k)) | (n & (2^k - 1))`
+pub put-below : (j k x n : ℕ) → x < 2 ^ (j + k)
+    → bitOr (bitAnd x (2 ^ (j + k) - 2 ^ k)) (bitAnd n (2 ^ k - 1)) ≡ x / 2 ^ k * 2 ^ k + n % 2 ^ k
+put-below j k x n h =
+    ap₂ bitOr (and-high x j k ∙ ap (λ (q : ℕ). q * 2 ^ k) (shr-mod j k h)) (and-mask n k)
+    ∙ or-shifted (x / 2 ^ k) k (n % 2 ^ k) (mod-lt n (pow-pos k))
 
 -- `x & (2^w - 1)`, and `(x >> k) & (2^w - 1)`
 pub and-low : (x w : ℕ) → bitAnd x (2 ^ w - 1) ≡ field 0 w x
@@ -81,7 +88,8 @@ low24 x = and-mask x 24
 
 pub ruleset bits = (low1, low2, low4, low5, low8, low24, div-one)
 
--- ---- bits and fields after setBit, clearBit, putBit, at any place: a number is the digits above bit k, bit k, and the k below it
+-- ---- bits and fields after setBit, clearBit, putBit, at any place: a number is the digits above bit k, bit k, and
+-- the k below it
 
 parts : (k x : ℕ) → (x / 2 ^ k / 2 * 2 + bit k x) * 2 ^ k + x % 2 ^ k ≡ x
 parts k x = ap (λ (q : ℕ). q * 2 ^ k + x % 2 ^ k) (div-add-mod' (x / 2 ^ k) 2) ∙ split x k
@@ -243,9 +251,13 @@ and-not w k x h l =
         ∙ and-block 1 (x / 2 ^ k / 2) (2 ^ j - 1) (x / 2 ^ k % 2) 0 (mod-lt (x / 2 ^ k) (zero-lt-suc 1)) (zero-lt-suc 1)
         ∙ ap₂ (λ (q r : ℕ). q * 2 + r) (and-mask (x / 2 ^ k / 2) j ∙ mod-eq-of-lt above) (and-zero-r (x / 2 ^ k % 2))
 
--- on a byte
+-- on a byte, by a constant and by a shift
 pub clear-bit : (k : ℕ) → k < 8 → (x : ℕ) → x < 256 → bitAnd x (255 - 2 ^ k) ≡ clearBit k x
 clear-bit k h x l = and-not 8 k x h l
+
+pub clear-shl : (k x : ℕ) → k < 8 → x < 256 → bitAnd x (255 - 1 * 2 ^ k % 256) ≡ clearBit k x
+clear-shl k x h l =
+    ap (λ (n : ℕ). bitAnd x (255 - n)) (shl-bit 8 k 1 h (omega arith) ∙ one-mul (2 ^ k)) ∙ clear-bit k h x l
 
 -- `(x & !(1 << k)) | (b << k)`
 pub or-put : (k b x : ℕ) → b < 2 → bitOr (clearBit k x) (b * 2 ^ k) ≡ putBit k b x
@@ -291,27 +303,3 @@ lt-within w x h = and-mask x w ∙ mod-eq-of-lt h
 
 pub within-le : (x m : ℕ) → bitAnd x m ≡ x → x ≤ m
 within-le x m e = subst (λ (n : ℕ). n ≤ m) e (and-le-r x m)
-
--- a bit of the mask may be put, set and cleared, and any bit be cleared
-pub within-put : (k c x m : ℕ) → c ≤ bit k m → bitAnd x m ≡ x → bitAnd (putBit k c x) m ≡ putBit k c x
-within-put k c x m h e =
-    ap₂ bitAnd (put-parts k c x) (sym (parts k m))
-    ∙ and-block k (x / 2 ^ k / 2 * 2 + c) (m / 2 ^ k / 2 * 2 + bit k m) (x % 2 ^ k) (m % 2 ^ k) (mod-lt x (pow-pos k)) (mod-lt m (pow-pos k))
-    ∙ ap₂ (λ (q r : ℕ). q * 2 ^ k + r)
-    (and-block 1 (x / 2 ^ k / 2) (m / 2 ^ k / 2) c (bit k m) (omega (arith, bit-below k m)) (bit-below k m)
-    ∙ ap₂ (λ (q r : ℕ). q * 2 + r) upper single) (sym (and-mod x m k) ∙ ap (λ (n : ℕ). n % 2 ^ k) e)
-    ∙ sym (put-parts k c x)
-  where
-    upper : bitAnd (x / 2 ^ k / 2) (m / 2 ^ k / 2) ≡ x / 2 ^ k / 2
-    upper =
-        sym (and-shr (x / 2 ^ k) (m / 2 ^ k) 1) ∙ ap (λ (n : ℕ). n / 2) (sym (and-shr x m k)) ∙ ap (λ (n : ℕ). n / 2 ^ k / 2) e
-
-    one-bit : (c b : ℕ) → b < 2 → c ≤ b → bitAnd c b ≡ c
-    one-bit zero b l h = refl
-    one-bit (suc zero) (suc zero) l h = refl
-    one-bit (suc zero) zero l h = absurd (omega arith)
-    one-bit (suc zero) (suc (suc b)) l h = absurd (omega arith)
-    one-bit (suc (suc c)) b l h = absurd (omega arith)
-
-    single : bitAnd c (bit k m) ≡ c
-    single = one-bit c (bit k m) (bit-below k m) h

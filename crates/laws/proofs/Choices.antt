@@ -1,11 +1,11 @@
--- A choice by a test: what a function makes of it, and what holds of it. Tests joined by `and`, `or` and `not`, taken apart and put
--- together.
-use mathlib.Core.Path.{_≡_, refl, sym}
+-- A choice by a test: what a function makes of it, and what holds of it. Tests joined by `and`, `or` and `not`, taken
+-- apart and put together.
+use mathlib.Core.Path.{_≡_, refl}
 use mathlib.Core.Bool.{Bool, true, false, cond, _&&_, _||_, not}
 use Prim.Native.Nat.{ℕ}
 use native.Mathlib.Omega.{arith}
 use lib.Dec.{eqb}
-use borrow.Author.Tests.{eqb-true}
+use borrow.Author.Tests.{eqb-true, not-false}
 
 -- a choice has what both have
 pub chosen : {A : Type 0} (P : A → Type 0) (b : Bool) (x y : A) → P x → P y → P (cond b x y)
@@ -64,8 +64,4 @@ or-neither a b p q = simp (p, q)
 
 -- a number that differs from 0 in no test is 0
 pub not-differs : (n : ℕ) → not (eqb n 0) ≡ false → n ≡ 0
-not-differs n e = eqb-true n 0 (go (eqb n 0) e)
-  where
-    go : (b : Bool) → not b ≡ false → b ≡ true
-    go true q = refl
-    go false q = sym q
+not-differs n e = eqb-true n 0 (not-false (eqb n 0) e)

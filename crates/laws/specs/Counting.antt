@@ -1,4 +1,5 @@
 -- m counts in turn of a counter of w bits: its value and its overflows, by recursion on the counts, and at once.
+-- Without a reload and at once they are for requests Seven and Twelve, which count over a stretch.
 use Prim.Native.Nat.{ℕ, zero, suc, _+_, _-_, _/_, _%_, _^_}
 use mathlib.Core.Bool.{cond}
 use lib.Dec.{ltb}
@@ -24,12 +25,13 @@ unfoldable pub overflowsOr : ℕ → ℕ → ℕ → ℕ → ℕ
 overflowsOr zero w reload n = 0
 overflowsOr (suc m) w reload n = overflow w n + overflowsOr m w reload (nextOr w reload n)
 
--- a lap: the counts from n to the overflow that follows. The first one starts at the count, each other at the reload value
+-- a lap: the counts from n to the overflow that follows. The first one starts at the count, each other at the reload
+-- value
 abbrev pub lapFrom : ℕ → ℕ → ℕ
 lapFrom w n = 2 ^ w - n
 
--- at once, m counts after n: in the first lap the count goes up; after it the counts left over go round in laps from the
--- reload value
+-- at once, m counts after n: in the first lap the count goes up; after it the counts left over go round in laps from
+-- the reload value
 unfoldable pub countAfter : ℕ → ℕ → ℕ → ℕ → ℕ
 countAfter m w reload n = cond (ltb m (lapFrom w n)) (n + m) (reload + (m - lapFrom w n) % lapFrom w reload)
 

@@ -1,8 +1,9 @@
 // Laws of bits and fields for any place, and of counting for any width: proofs/. Here what the parts share.
 ghost use mathlib.Core.Path.{_≡_};
 ghost use mathlib.Core.Bool.{cond};
-ghost use Prim.Native.Nat.{min};
+ghost use Prim.Native.Nat.{_<_, min};
 ghost use Rattle.machine.specs.Counting as Counting;
+ghost use Rattle.machine.specs.Timers as Timers;
 
 // One of two bytes.
 pub fn picked(b: bool, x: u8, y: u8) -> u8
@@ -25,9 +26,24 @@ pub fn least(a: u64, b: u64) -> u64
     if a < b { a } else { b }
 }
 
+// The 13 bits of a register pair in mode 0: TH, and the low 5 of TL.
+pub fn pair13(tl: u8, th: u8) -> u16
+    ensures { λ r. ⌜ r ≡ Counting.pair13 tl th ⌝ }
+{
+    ((th as u16) << 5) | ((tl as u16) & 0x1f)
+}
+
 // The 16 bits of a register pair.
 pub fn pair16(tl: u8, th: u8) -> u16
     ensures { λ r. ⌜ r ≡ Counting.pair16 tl th ⌝ }
 {
     ((th as u16) << 8) | (tl as u16)
+}
+
+// An overflow sets the flag at bit k.
+pub fn flagged(k: u8, overflow: u8, x: u8) -> u8
+    requires { ⌜ k < 8 ⌝ }
+    ensures { λ r. ⌜ r ≡ Timers.flagged k overflow x ⌝ }
+{
+    picked(overflow == 1, x | (1 << k), x)
 }

@@ -1,18 +1,16 @@
 -- Any cut ends alike: a call that passes leaves the device after its cycles, one for each pin byte, and the cycles of a list of calls
 -- are those of its calls in turn.
 use Prim.Native.Nat.{ℕ, zero, suc}
-use mathlib.Core.Path.{_≡_, refl, sym, ap, _∙_, subst}
+use mathlib.Core.Path.{_≡_, refl, sym, ap, _∙_}
 use mathlib.Core.Bool.{Bool, true, false, cond}
 use mathlib.Core.List.{List, [], _∷_, _++_}
 use native.Mathlib.Omega.{arith}
 use lib.Dec.{eqb, leb}
 use borrow.Author.Tests.{eqb-false}
 use Rattle.machine.specs.declared.Device.{Device}
-use Rattle.machine.specs.declared.Answer.{Answer}
-use Rattle.machine.specs.declared.CycleAnswer.{CycleAnswer}
 use Rattle.machine.specs.Record.{accepted, pinsOk}
 use Rattle.machine.specs.Cycle.{cycleOf, refused9, cycles, anyRefused9}
-use Rattle.machine.specs.Calls.{refuse, passed, refuseCycle, passedCycle, cycleAnswer, jumpAnswer, longest, entryPins, entryCycles, traceFault, traceRefused9, traceCycles, traceAnswer}
+use Rattle.machine.specs.Calls.{refuseRun, passedRun, refuseCycle, passedCycle, cycleAnswer, jumpAnswer, longest, entryPins, entryCycles, traceFault, traceRefused9, traceCycles, traceAnswer}
 use Rattle.machine.specs.Lists.{Call, Reply, play}
 use Rattle.lists.specs.Spelling.{Each}
 use Rattle.lists.specs.Demand3.{Chained}
@@ -48,8 +46,8 @@ cycle-passed true false c d e h = absurd (omega arith)
 cycle-passed false b c d e h = absurd (omega arith)
 
 jump-passed : (a b c g : Bool) (d e : Device)
-    → cond a (cond b (cond c (cond g (refuse 9 d) (passed e)) (refuse 5 d)) (refuse 4 d)) (refuse 1 d) .code ≡ 0
-    → cond a (cond b (cond c (cond g (refuse 9 d) (passed e)) (refuse 5 d)) (refuse 4 d)) (refuse 1 d) .device ≡ e
+    → cond a (cond b (cond c (cond g (refuseRun 9 d) (passedRun e)) (refuseRun 5 d)) (refuseRun 4 d)) (refuseRun 1 d) .code ≡ 0
+    → cond a (cond b (cond c (cond g (refuseRun 9 d) (passedRun e)) (refuseRun 5 d)) (refuseRun 4 d)) (refuseRun 1 d) .device ≡ e
 jump-passed true true true false d e h = refl
 jump-passed true true true true d e h = absurd (omega arith)
 jump-passed true true false g d e h = absurd (omega arith)
@@ -57,8 +55,8 @@ jump-passed true false c g d e h = absurd (omega arith)
 jump-passed false b c g d e h = absurd (omega arith)
 
 trace-passed : (a b g : Bool) (fault : ℕ) (d e : Device) → eqb fault 0 ≡ b
-    → cond a (cond b (cond g (refuse 9 d) (passed e)) (refuse fault d)) (refuse 1 d) .code ≡ 0
-    → cond a (cond b (cond g (refuse 9 d) (passed e)) (refuse fault d)) (refuse 1 d) .device ≡ e
+    → cond a (cond b (cond g (refuseRun 9 d) (passedRun e)) (refuseRun fault d)) (refuseRun 1 d) .code ≡ 0
+    → cond a (cond b (cond g (refuseRun 9 d) (passedRun e)) (refuseRun fault d)) (refuseRun 1 d) .device ≡ e
 trace-passed true true false fault d e q h = refl
 trace-passed true true true fault d e q h = absurd (omega arith)
 trace-passed true false g fault d e q h = absurd (eqb-false fault 0 q h)

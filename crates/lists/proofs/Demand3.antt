@@ -1,31 +1,37 @@
 -- Demand 3, by induction on the list: each step is what a contract promises, and that is the plain machine's.
-use mathlib.Core.Path.{_≡_, refl, ap, _∙_}
-use mathlib.Core.List.{List, [], _∷_}
+use mathlib.Core.Path.{_≡_, refl, sym, ap, _∙_}
+use mathlib.Core.List.{List, [], _∷_, _++_}
+use Prim.Native.Nat.{ℕ}
+use native.Mathlib.Omega.{arith}
+use lib.ListN.{length}
 use Rattle.machine.specs.declared.Device.{Device}
 use Rattle.machine.specs.declared.Answer.{Answer}
+use Rattle.machine.specs.declared.RunAnswer.{RunAnswer}
 use Rattle.machine.specs.declared.CycleAnswer.{CycleAnswer}
 use Rattle.machine.specs.declared.TakeAnswer.{TakeAnswer}
 use Rattle.machine.specs.declared.ReadAnswer.{ReadAnswer}
 use Rattle.machine.specs.declared.OfferAnswer.{OfferAnswer}
 use Rattle.machine.specs.declared.LookAnswer.{LookAnswer}
-use Rattle.machine.specs.Lists.{Call, Reply, Played, Ran, ran, play, run, machine, played, replyOf, replyOfCycle, replyOfTake, replyOfRead, replyOfOffer, replyOfLook}
-use Rattle.lists.specs.Demand3.{Kept, Chained, AsksNothing, Demand3}
+use Rattle.machine.specs.Calls.{resetAnswer}
+use Rattle.machine.specs.Lists.{Call, Reply, Played, Ran, ran, play, run, machine, played, replyOf, replyOfRun, replyOfCycle, replyOfTake, replyOfRead, replyOfOffer, replyOfLook}
+use Rattle.lists.specs.Demand3.{Kept, Chained, AsksNothing, Tells, Demand3}
 use Rattle.lists.specs.Demand3.Chained.{nothing, then}
-use Rattle.lists.proofs.Looks.{look-means}
+use Rattle.c51.proofs.reset.Reads as reset-reads
+use Rattle.lists.proofs.Looks.{look-means, look-tells}
 use Rattle.lists.proofs.Spells.{spelled}
-use Rattle.lists.proofs.Replayed.{replayed}
+use Rattle.lists.proofs.Replayed.{run-long, replayed}
 
 -- a call that keeps its contract is played as the machine plays it
 pub kept-played : {c : Call} {d : Device} {p : Played} → Kept c d p → p ≡ play c d
 unfolding play
 kept-played (Kept.reset e) = ap (λ (a : Answer). played (replyOf a) (a .device)) e
-kept-played (Kept.read {d = d} e) = ap (λ (a : ReadAnswer). played (replyOfRead a) d) e
+kept-played (Kept.read {d = d} e) = ap (λ (a : ReadAnswer). played (replyOfRead a) d) (e .0)
 kept-played (Kept.write e) = ap (λ (a : Answer). played (replyOf a) (a .device)) e
 kept-played (Kept.cycle e) = ap (λ (a : CycleAnswer). played (replyOfCycle a) (a .device)) e
-kept-played (Kept.jump e) = ap (λ (a : Answer). played (replyOf a) (a .device)) e
-kept-played (Kept.trace κ es e) = ap (λ (a : Answer). played (replyOf a) (a .device)) e
-kept-played (Kept.look {d = d} e) = ap (λ (a : LookAnswer). played (replyOfLook a) d) e
-kept-played (Kept.offer {d = d} e) = ap (λ (a : OfferAnswer). played (replyOfOffer a) d) e
+kept-played (Kept.jump e) = ap (λ (a : RunAnswer). played (replyOfRun a) (a .device)) e
+kept-played (Kept.trace κ es e) = ap (λ (a : RunAnswer). played (replyOfRun a) (a .device)) e
+kept-played (Kept.look {d = d} e) = ap (λ (a : LookAnswer). played (replyOfLook a) d) (e .0)
+kept-played (Kept.offer {d = d} e) = ap (λ (a : OfferAnswer). played (replyOfOffer a) d) (e .0)
 kept-played (Kept.take e) = ap (λ (a : TakeAnswer). played (replyOfTake a) (a .device)) e
 kept-played (Kept.return e) = ap (λ (a : Answer). played (replyOf a) (a .device)) e
 
@@ -40,13 +46,13 @@ chained (then {cs = cs} {p = p} k r) =
 kept-of : (c : Call) (d : Device) → Kept c d (play c d)
 unfolding play
 kept-of (Call.reset kind) d = Kept.reset refl
-kept-of (Call.read a) d = Kept.read refl
+kept-of (Call.read a) d = Kept.read (refl, refl)
 kept-of (Call.write a v) d = Kept.write refl
 kept-of (Call.cycle pins) d = Kept.cycle refl
 kept-of (Call.jump pins n) d = Kept.jump refl
 kept-of (Call.trace es) d = Kept.trace [] (record { ptr = (0, 0); name = 0; now = es }) refl
-kept-of (Call.look pins n) d = Kept.look refl
-kept-of Call.offer d = Kept.offer refl
+kept-of (Call.look pins n) d = Kept.look (refl, refl)
+kept-of Call.offer d = Kept.offer (refl, refl)
 kept-of Call.take d = Kept.take refl
 kept-of Call.return d = Kept.return refl
 
@@ -70,6 +76,41 @@ asks-nothing =
       returns = λ d. tt;
     }
 
+-- a list in two parts: the second from the state that the first leaves
+run-append : (xs ys : List Call) (d : Device) → run (xs ++ ys) d .replies ≡ run xs d .replies ++ run ys (run xs d .device) .replies
+unfolding run
+run-append [] ys d = refl
+run-append (x ∷ xs) ys d = ap (λ (rs : List Reply). play x d .reply ∷ rs) (run-append xs ys (play x d .device))
+
+-- the first members after two equally long parts of one list
+heads : (xs us ys vs : List Reply) (a b : Reply) → length xs ≡ length us → xs ++ (a ∷ ys) ≡ us ++ (b ∷ vs) → a ≡ b
+heads [] [] ys vs a b l e = cc
+heads [] (u ∷ us) ys vs a b l e = absurd (omega arith)
+heads (x ∷ xs) [] ys vs a b l e = absurd (omega arith)
+heads (x ∷ xs) (u ∷ us) ys vs a b l e = heads xs us ys vs a b (omega arith) (cc)
+
+-- the reply at the place of a call is what the machine replies to it there
+reply-there : (before after : List Call) (c : Call) (d last : Device) (earlier later : List Reply) (r : Reply)
+    → ran (earlier ++ (r ∷ later)) last ≡ run (before ++ (c ∷ after)) d → length earlier ≡ length before
+    → r ≡ play c (run before d .device) .reply
+unfolding run
+reply-there before after c d last earlier later r e l =
+    let all = ap (λ (m : Ran). m .replies) e ∙ run-append before (c ∷ after) d in
+    let there = run before d .device in
+    heads earlier (run before d .replies) later (run after (play c there .device) .replies) r (play c there .reply) (l ∙ sym (run-long before d)) all
+
+looks-in-lists : (kind : ℕ) {a : Answer} (before after : List Call) (pins n : ℕ) (earlier later : List Reply) (r : Reply) {last : Device}
+    → reset-reads.Learnt tt (kind, tt) a (kind, tt)
+    → Chained (before ++ (Call.look pins n ∷ after)) (a .device) (earlier ++ (r ∷ later)) last
+    → length earlier ≡ length before → r .code ≡ 0
+    → Tells pins n (machine kind before .device) (r .value)
+unfolding machine play
+looks-in-lists kind {a} before after pins n earlier later r {last} e c l p =
+    let d = machine kind before .device in
+    let whole = chained c ∙ ap (λ (b : Answer). run (before ++ (Call.look pins n ∷ after)) (b .device)) e in
+    let here = reply-there before after (Call.look pins n) (resetAnswer kind .device) last earlier later r whole l in
+    look-tells pins n d r here p
+
 pub demand3 : Demand3
 unfolding machine
 demand3 =
@@ -78,7 +119,8 @@ demand3 =
       from-reset = λ kind {a} {cs} e c. chained c ∙ ap (λ (b : Answer). run cs (b .device)) e;
       every-list = every-list;
       asks-nothing = asks-nothing;
-      looks = λ d pins n answer e p. look-means pins n d answer e p;
+      looks = λ d pins n answer e p. look-means pins n d answer (e .0) p;
+      looks-in-lists = looks-in-lists;
       spelled = spelled;
       replayed = replayed;
     }

@@ -1,3 +1,4 @@
+pub mod Rows
 pub mod Replays
 pub mod Spells
 pub mod Looks

@@ -12,8 +12,9 @@ use Rattle.machine.specs.declared.LookAnswer.the-variants as Look
 use Rattle.machine.specs.Record.{accepted, pinsOk}
 use Rattle.machine.specs.Cycle.{cycleOf, cycles, anyRefused9}
 use Rattle.machine.specs.Calls.{rises, firstRise, lookAnswer, longest}
-use Rattle.machine.specs.Lists.{replyOfLook}
-use Rattle.lists.specs.Demand3.{First, Never, Looks}
+use Rattle.machine.specs.Lists.{Reply, number, replyOfLook}
+use Rattle.machine.specs.Lists.Value.{none}
+use Rattle.lists.specs.Demand3.{First, Never, Looks, Tells}
 
 -- a flag rises in the cycle after j others
 abbrev after : ℕ → ℕ → Device → Bool
@@ -106,8 +107,40 @@ module _ (pins n : ℕ) (d : Device) where
   passes true false b₃ b₄ a e = absurd (omega arith)
   passes false b₂ b₃ b₄ a e = absurd (omega arith)
 
-  pub look-means : (a : LookAnswer) → a ≡ lookAnswer d pins n → replyOfLook a .code ≡ 0 → Looks pins n d a
+  -- the same of what its reply says
+  at-tells : (m : ℕ) → Looks pins n d (Look.At m) → Tells pins n d (number m)
+  at-tells m w =
+      record {
+        names = λ k q. let s : m ≡ k = cc in w .names k (ap Look.At s);
+        named = λ k g. let q = w .named k g in cc;
+        none-said = λ q. let z : _≡_ {A = ℕ} 0 1 = cc in absurd (omega arith);
+        none-rises = λ g. let q = w .none-rises g in let z : _≡_ {A = ℕ} 0 1 = cc in absurd (omega arith);
+      }
+
+  nothing-tells : Looks pins n d Look.Nothing → Tells pins n d none
+  nothing-tells w =
+      record {
+        names = λ k q. let z : _≡_ {A = ℕ} 0 1 = cc in absurd (omega arith);
+        named = λ k g. let q = w .named k g in let z : _≡_ {A = ℕ} 0 1 = cc in absurd (omega arith);
+        none-said = λ q. w .none-said refl;
+        none-rises = λ g. refl;
+      }
+
+  found-tells : {a : LookAnswer} → Found 0 n pins d a → Tells pins n d (replyOfLook a .value)
+  found-tells (at j m e l t f) = at-tells m (found-means (at j m e l t f))
+  found-tells (nowhere f) = nothing-tells (found-means (nowhere f))
+
+  -- what a look that passes answers
+  first-is : (a : LookAnswer) → a ≡ lookAnswer d pins n → replyOfLook a .code ≡ 0 → a ≡ firstRise 0 n pins d
   unfolding lookAnswer
-  look-means a e p =
+  first-is a e p =
       let code = ap (λ (x : LookAnswer). replyOfLook x .code) (sym e) ∙ p in
-      rw (e ∙ passes (accepted d) (pinsOk pins) (leb n longest) (anyRefused9 n pins d) (firstRise 0 n pins d) code) (found-means (found 0 n pins d))
+      e ∙ passes (accepted d) (pinsOk pins) (leb n longest) (anyRefused9 n pins d) (firstRise 0 n pins d) code
+
+  pub look-means : (a : LookAnswer) → a ≡ lookAnswer d pins n → replyOfLook a .code ≡ 0 → Looks pins n d a
+  look-means a e p = rw (first-is a e p) (found-means (found 0 n pins d))
+
+  pub look-tells : (r : Reply) → r ≡ replyOfLook (lookAnswer d pins n) → r .code ≡ 0 → Tells pins n d (r .value)
+  look-tells r e p =
+      let first = first-is (lookAnswer d pins n) refl (ap (λ (x : Reply). x .code) (sym e) ∙ p) in
+      rw (e, first) (found-tells (found 0 n pins d))

@@ -1,16 +1,16 @@
 -- Every list of calls whose arguments fit their types is spelled by a script: call by call, each naming its own part of
 -- the lent entries.
-use Prim.Native.Nat.{ℕ, zero, suc, _+_, _^_, _≤_, _<_, min}
+use Prim.Native.Nat.{ℕ, _+_, _*_, _/_, _^_, _<_, min}
 use mathlib.Core.Path.{_≡_, refl, sym, ap, ap₂, _∙_}
-use mathlib.Core.List.{List, [], _∷_, _++_, map, append-assoc}
-use native.Mathlib.Nat.{mod-eq-of-lt, add-sub-cancel-left, min-eq-left, le-refl}
+use mathlib.Core.List.{List, [], _∷_, _++_, append-assoc}
+use native.Mathlib.Nat.{mod-eq-of-lt, add-sub-cancel-left, min-eq-left}
 use native.Mathlib.Omega.{arith}
-use lib.ListN.{length, take, getD, length-append, length-map}
+use lib.ListN.{length, length-append}
 use lib.Seq.{take-append-seam, drop-append-seam}
 use borrow.Author.Tests.{le-leb}
 use Rattle.machine.specs.Lists.{Call}
-use Rattle.lists.specs.Script.{Script, script, Outputs, partOf, callOf, callsFrom, callsOf, shortest}
-use Rattle.lists.specs.Spelling.{Each, In, Addressable, Fits, opOf, byteOf, wordOf, entriesOf, lentOf, startsOf, endsOf, scriptOf, Room, Spells}
+use Rattle.lists.specs.Script.{callWords, answerWords, partOf, callOf, callsIn, callsOf, rows}
+use Rattle.lists.specs.Spelling.{Each, In, Addressable, Fits, entriesOf, spell, rowsOfCalls, lentOf, scriptOf, Room, Spells}
 
 -- a part that stands between others
 part-here : (pre es post : List ℕ) → partOf (pre ++ (es ++ post)) (length pre) (length pre + length es) ≡ es
@@ -24,90 +24,62 @@ part-here pre es post =
 
 -- one call
 spelled-here : (c : Call) (pre post : List ℕ) → Fits c
-    → callOf (opOf c) (byteOf c) (wordOf c) (length pre) (length pre + length (entriesOf c)) (pre ++ (entriesOf c ++ post)) ≡ c
-unfolding Fits opOf byteOf wordOf entriesOf callOf
-spelled-here (Call.reset kind) pre post f = refl
-spelled-here (Call.read a) pre post f = refl
-spelled-here (Call.write a v) pre post f = ap (Call.write a) (mod-eq-of-lt (f .1))
-spelled-here (Call.cycle pins) pre post f = refl
-spelled-here (Call.jump pins n) pre post f = refl
+    → callOf (spell (length pre) c .op) (spell (length pre) c .first) (spell (length pre) c .second) (pre ++ (entriesOf c ++ post)) ≡ c
+unfolding Fits spell entriesOf callOf
+spelled-here (Call.reset kind) pre post f = ap Call.reset (mod-eq-of-lt f)
+spelled-here (Call.read a) pre post f = ap Call.read (mod-eq-of-lt f)
+spelled-here (Call.write a v) pre post f = ap₂ Call.write (mod-eq-of-lt (f .0)) (mod-eq-of-lt (f .1))
+spelled-here (Call.cycle pins) pre post f = ap Call.cycle (mod-eq-of-lt f)
+spelled-here (Call.jump pins n) pre post f = ap (λ (p : ℕ). Call.jump p n) (mod-eq-of-lt (f .0))
 spelled-here (Call.trace es) pre post f = ap Call.trace (part-here pre es post)
-spelled-here (Call.look pins n) pre post f = refl
+spelled-here (Call.look pins n) pre post f = ap (λ (p : ℕ). Call.look p n) (mod-eq-of-lt (f .0))
 spelled-here Call.offer pre post f = refl
 spelled-here Call.take pre post f = refl
 spelled-here Call.return pre post f = refl
 
--- the calls after the first place are those of what follows it
-after-first : (o b w x y : ℕ) (os bs ws xs ys l : List ℕ) (i n : ℕ)
-    → callsFrom (script (o ∷ os) (b ∷ bs) (w ∷ ws) (x ∷ xs) (y ∷ ys) l) (suc i) n ≡ callsFrom (script os bs ws xs ys l) i n
-unfolding callsFrom
-after-first o b w x y os bs ws xs ys l i zero = refl
-after-first o b w x y os bs ws xs ys l i (suc n) =
-    ap (λ (cs : List Call). callOf (getD os i 0) (getD bs i 0) (getD ws i 0) (getD xs i 0) (getD ys i 0) l ∷ cs)
-    (after-first o b w x y os bs ws xs ys l (suc i) n)
-
--- the script of calls that are lent their entries after k others
-abbrev scriptAfter : ℕ → List ℕ → List Call → Script
-scriptAfter k lent cs = script (map opOf cs) (map byteOf cs) (map wordOf cs) (startsOf k cs) (endsOf k cs) lent
-
 spelled-all : (cs : List Call) (pre : List ℕ) → Each Fits cs
-    → callsFrom (scriptAfter (length pre) (pre ++ lentOf cs) cs) 0 (length cs) ≡ cs
-unfolding callsFrom startsOf endsOf lentOf Each
+    → callsIn (length cs) (rowsOfCalls (length pre) cs) (pre ++ lentOf cs) ≡ cs
+unfolding callsIn rowsOfCalls lentOf Each
 spelled-all [] pre f = refl
 spelled-all (c ∷ cs) pre f =
-    let k = length pre + length (entriesOf c) in
-    let lent = pre ++ (entriesOf c ++ lentOf cs) in
     ap₂ (λ (d : Call) (ds : List Call). d ∷ ds) (spelled-here c pre (lentOf cs) (f .0))
-    (after-first (opOf c) (byteOf c) (wordOf c) (length pre) k (map opOf cs) (map byteOf cs) (map wordOf cs) (startsOf k cs)
-    (endsOf k cs)
-    lent
-    0
-    (length cs)
-    ∙ (ap₂ (λ (j : ℕ) (l : List ℕ). callsFrom (scriptAfter j l cs) 0 (length cs)) (sym (length-append pre (entriesOf c)))
+    (ap₂ (λ (j : ℕ) (l : List ℕ). callsIn (length cs) (rowsOfCalls j cs) l) (sym (length-append pre (entriesOf c)))
     (sym (append-assoc pre (entriesOf c) (lentOf cs)))
-    ∙ spelled-all cs (pre ++ entriesOf c) (f .1)))
+    ∙ spelled-all cs (pre ++ entriesOf c) (f .1))
 
 -- The slices
 
--- numbers and bytes fit their types
-op-fits : (c : Call) → Fits c → In 1 (opOf c)
-unfolding opOf
-op-fits (Call.reset kind) f = omega arith
-op-fits (Call.read a) f = omega arith
-op-fits (Call.write a v) f = omega arith
-op-fits (Call.cycle pins) f = omega arith
-op-fits (Call.jump pins n) f = omega arith
-op-fits (Call.trace es) f = omega arith
-op-fits (Call.look pins n) f = omega arith
-op-fits Call.offer f = omega arith
-op-fits Call.take f = omega arith
-op-fits Call.return f = omega arith
+-- the words of a row fit
+record Words (k : ℕ) (c : Call) : Type 0 where
+  op : In 8 (spell k c .op)
+  first : In 8 (spell k c .first)
+  second : In 8 (spell k c .second)
 
-byte-fits : (c : Call) → Fits c → In 1 (byteOf c)
-unfolding byteOf Fits
-byte-fits (Call.reset kind) f = f
-byte-fits (Call.read a) f = f
-byte-fits (Call.write a v) f = f .0
-byte-fits (Call.cycle pins) f = f
-byte-fits (Call.jump pins n) f = f .0
-byte-fits (Call.trace es) f = omega arith
-byte-fits (Call.look pins n) f = f .0
-byte-fits Call.offer f = omega arith
-byte-fits Call.take f = omega arith
-byte-fits Call.return f = omega arith
+words-fit : (k : ℕ) (c : Call) → Fits c → k + length (entriesOf c) < 2 ^ 63 → Words k c
+unfolding spell entriesOf Fits
+words-fit k (Call.reset kind) f h = record { op = omega arith; first = omega arith; second = omega arith }
+words-fit k (Call.read a) f h = record { op = omega arith; first = omega arith; second = omega arith }
+words-fit k (Call.write a v) f h = let g = f .0 in let e = f .1 in record { op = omega arith; first = omega arith; second = omega arith }
+words-fit k (Call.cycle pins) f h = record { op = omega arith; first = omega arith; second = omega arith }
+words-fit k (Call.jump pins n) f h = let g = f .0 in record { op = omega arith; first = omega arith; second = f .1 }
+words-fit k (Call.trace es) f h = record { op = omega arith; first = omega arith; second = omega arith }
+words-fit k (Call.look pins n) f h = let g = f .0 in record { op = omega arith; first = omega arith; second = f .1 }
+words-fit k Call.offer f h = record { op = omega arith; first = omega arith; second = omega arith }
+words-fit k Call.take f h = record { op = omega arith; first = omega arith; second = omega arith }
+words-fit k Call.return f h = record { op = omega arith; first = omega arith; second = omega arith }
 
-word-fits : (c : Call) → Fits c → In 8 (wordOf c)
-unfolding wordOf Fits
-word-fits (Call.reset kind) f = omega arith
-word-fits (Call.read a) f = omega arith
-word-fits (Call.write a v) f = let h = f .1 in omega arith
-word-fits (Call.cycle pins) f = omega arith
-word-fits (Call.jump pins n) f = f .1
-word-fits (Call.trace es) f = omega arith
-word-fits (Call.look pins n) f = f .1
-word-fits Call.offer f = omega arith
-word-fits Call.take f = omega arith
-word-fits Call.return f = omega arith
+rows-fit : (k : ℕ) (cs : List Call) → Each Fits cs → k + length (lentOf cs) < 2 ^ 63 → Each (In 8) (rowsOfCalls k cs)
+unfolding lentOf rowsOfCalls Each
+rows-fit k [] f h = tt
+rows-fit k (c ∷ cs) f h =
+    let e = length-append (entriesOf c) (lentOf cs) in
+    let w = words-fit k c (f .0) (omega arith) in
+    (w .op, (w .first, (w .second, rows-fit (k + length (entriesOf c)) cs (f .1) (omega arith))))
+
+rows-long : (k : ℕ) (cs : List Call) → length (rowsOfCalls k cs) ≡ length cs * callWords
+unfolding rowsOfCalls
+rows-long k [] = refl
+rows-long k (c ∷ cs) = let e = rows-long (k + length (entriesOf c)) cs in omega arith
 
 entries-fit : (c : Call) → Fits c → Each (In 4) (entriesOf c)
 unfolding entriesOf Fits Each
@@ -122,12 +94,6 @@ entries-fit Call.offer f = tt
 entries-fit Call.take f = tt
 entries-fit Call.return f = tt
 
-each-map : (size : ℕ) (g : Call → ℕ) → ((c : Call) → Fits c → In size (g c)) → (cs : List Call) → Each Fits cs
-    → Each (In size) (map g cs)
-unfolding Each
-each-map size g h [] f = tt
-each-map size g h (c ∷ cs) f = (h c (f .0), each-map size g h cs (f .1))
-
 each-append : (size : ℕ) (xs ys : List ℕ) → Each (In size) xs → Each (In size) ys → Each (In size) (xs ++ ys)
 unfolding Each
 each-append size [] ys f g = g
@@ -138,51 +104,21 @@ unfolding lentOf Each
 lent-fits [] f = tt
 lent-fits (c ∷ cs) f = each-append 4 (entriesOf c) (lentOf cs) (entries-fit c (f .0)) (lent-fits cs (f .1))
 
-starts-fit : (k : ℕ) (cs : List Call) → k + length (lentOf cs) < 2 ^ 63 → Each (In 8) (startsOf k cs)
-unfolding lentOf startsOf Each
-starts-fit k [] h = tt
-starts-fit k (c ∷ cs) h =
-    let e = length-append (entriesOf c) (lentOf cs) in
-    (omega arith, starts-fit (k + length (entriesOf c)) cs (omega arith))
-
-ends-fit : (k : ℕ) (cs : List Call) → k + length (lentOf cs) < 2 ^ 63 → Each (In 8) (endsOf k cs)
-unfolding lentOf endsOf Each
-ends-fit k [] h = tt
-ends-fit k (c ∷ cs) h =
-    let e = length-append (entriesOf c) (lentOf cs) in
-    (omega arith, ends-fit (k + length (entriesOf c)) cs (omega arith))
-
--- each has a place for each call
-starts-long : (k : ℕ) (cs : List Call) → length (startsOf k cs) ≡ length cs
-unfolding startsOf
-starts-long k [] = refl
-starts-long k (c ∷ cs) = ap suc (starts-long (k + length (entriesOf c)) cs)
-
-ends-long : (k : ℕ) (cs : List Call) → length (endsOf k cs) ≡ length cs
-unfolding endsOf
-ends-long k [] = refl
-ends-long k (c ∷ cs) = ap suc (ends-long (k + length (entriesOf c)) cs)
-
-counts : (n o : ℕ) → n ≤ o → min n (min n (min n (min n (min n o)))) ≡ n
-counts n o h = simp (min-eq-left h, min-eq-left (le-refl n))
-
-pub spelled : (cs : List Call) → Each Fits cs → Addressable 8 (length cs) → Addressable 4 (length (lentOf cs))
+pub spelled : (cs : List Call) → Each Fits cs → Addressable 8 (length cs * callWords) → Addressable 4 (length (lentOf cs))
     → Spells (scriptOf cs) cs
-unfolding callsOf shortest
+unfolding callsOf rows
 spelled cs f a b =
     record {
-      ops = record { elements = each-map 1 opOf op-fits cs f; addressable = rw (length-map cs opOf) (omega arith) };
-      bytes = record { elements = each-map 1 byteOf byte-fits cs f; addressable = rw (length-map cs byteOf) (omega arith) };
-      words = record { elements = each-map 8 wordOf word-fits cs f; addressable = rw (length-map cs wordOf) a };
-      starts = record { elements = starts-fit 0 cs (omega arith); addressable = rw (starts-long 0 cs) a };
-      ends = record { elements = ends-fit 0 cs (omega arith); addressable = rw (ends-long 0 cs) a };
+      calls = record { elements = rows-fit 0 cs f (omega arith); addressable = rw (rows-long 0 cs) a };
       lent = record { elements = lent-fits cs f; addressable = b };
-      calls = calls;
+      spelled = λ answers r. calls answers r;
     }
   where
-    calls : (o : Outputs) → Room (length cs) o → callsOf (scriptOf cs) o ≡ cs
-    calls o r =
-        let room = min (length (o .codes)) (min (length (o .values)) (length (o .nones))) in
-        let all = counts (length cs) room (omega arith) in
-        rw (length-map cs opOf, length-map cs byteOf, length-map cs wordOf, starts-long 0 cs, ends-long 0 cs, all)
-        (spelled-all cs [] f)
+    whole : (answers : List ℕ) → Room (length cs) answers
+        → min (length (rowsOfCalls 0 cs) / callWords) (length answers / answerWords) ≡ length cs
+    whole answers r =
+        let e : length (rowsOfCalls 0 cs) / callWords ≡ length cs = omega (arith, rows-long 0 cs) in
+        rw e (min-eq-left (omega arith))
+
+    calls : (answers : List ℕ) → Room (length cs) answers → callsOf (scriptOf cs) answers ≡ cs
+    calls answers r = rw (whole answers r) (spelled-all cs [] f)

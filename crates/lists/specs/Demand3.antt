@@ -1,14 +1,15 @@
 -- Demand 3: a whole list of public calls against the plain machine of document 01, and what a look ahead answers.
 -- No promise is written out here: `Learnt` is what the check reads off a function's contract, and what a caller of it learns.
-use Prim.Native.Nat.{ℕ, _-_, _≤_, _<_}
+use Prim.Native.Nat.{ℕ, _-_, _*_, _≤_, _<_}
 use mathlib.Core.Path.{_≡_}
 use mathlib.Core.Bool.{Bool, true, false}
-use mathlib.Core.List.{List, [], _∷_}
+use mathlib.Core.List.{List, [], _∷_, _++_}
 use lib.ListN.{length, drop}
 use base.Fml.{Lft}
 use denote.Ref.{RefT, now}
 use Rattle.machine.specs.declared.Device.{Device}
 use Rattle.machine.specs.declared.Answer.{Answer}
+use Rattle.machine.specs.declared.RunAnswer.{RunAnswer}
 use Rattle.machine.specs.declared.CycleAnswer.{CycleAnswer}
 use Rattle.machine.specs.declared.TakeAnswer.{TakeAnswer}
 use Rattle.machine.specs.declared.ReadAnswer.{ReadAnswer}
@@ -17,8 +18,8 @@ use Rattle.machine.specs.declared.LookAnswer.{LookAnswer}
 use Rattle.machine.specs.declared.LookAnswer.the-variants as Look
 use Rattle.machine.specs.Cycle.{cycles}
 use Rattle.machine.specs.Calls.{rises}
-use Rattle.machine.specs.Lists.{Call, Reply, Played, Ran, ran, run, machine, played, replyOf, replyOfCycle, replyOfTake, replyOfRead, replyOfOffer, replyOfLook}
-use Rattle.lists.specs.Script.{Script, Outputs, repliesIn, Replayed}
+use Rattle.machine.specs.Lists.{Call, Value, Reply, Played, Ran, ran, run, machine, played, number, replyOf, replyOfRun, replyOfCycle, replyOfTake, replyOfRead, replyOfOffer, replyOfLook}
+use Rattle.lists.specs.Script.{Script, callWords, answerWords, repliesIn, Replayed}
 use Rattle.lists.specs.Spelling.{Each, Fits, Addressable, lentOf, scriptOf, Room, Spells}
 use Rattle.c51.proofs.reset.Reads as reset-reads
 use Rattle.c51.proofs.read.Reads as read-reads
@@ -46,12 +47,12 @@ pub data Kept : Call → Device → Played → Type 0 where
   cycle : {pins : ℕ} {d : Device} {r : CycleAnswer}
       → cycle-reads.Learnt tt (d, (pins, tt)) r (d, (pins, tt))
       → Kept (Call.cycle pins) d (played (replyOfCycle r) (r .device))
-  jump : {pins n : ℕ} {d : Device} {r : Answer}
+  jump : {pins n : ℕ} {d : Device} {r : RunAnswer}
       → jump-reads.Learnt tt (d, (pins, (n, tt))) r (d, (pins, (n, tt)))
-      → Kept (Call.jump pins n) d (played (replyOf r) (r .device))
-  trace : (κ : Lft) (es : RefT (List ℕ)) {d : Device} {r : Answer}
+      → Kept (Call.jump pins n) d (played (replyOfRun r) (r .device))
+  trace : (κ : Lft) (es : RefT (List ℕ)) {d : Device} {r : RunAnswer}
       → trace-reads.Learnt (κ, tt) (d, (es, tt)) r (d, (es, tt))
-      → Kept (Call.trace (now es)) d (played (replyOf r) (r .device))
+      → Kept (Call.trace (now es)) d (played (replyOfRun r) (r .device))
   look : {pins n : ℕ} {d : Device} {r : LookAnswer}
       → look-reads.Learnt tt (d, (pins, (n, tt))) r (d, (pins, (n, tt)))
       → Kept (Call.look pins n) d (played (replyOfLook r) d)
@@ -106,13 +107,18 @@ pub record Looks (pins n : ℕ) (d : Device) (answer : LookAnswer) : Type 0 wher
   pub none-said : answer ≡ Look.Nothing → Never pins n d
   pub none-rises : Never pins n d → answer ≡ Look.Nothing
 
--- What a replay leaves: the machine's state, its replies as they read back from the outputs, and what lies past them as it was
-pub record Same (m : Ran) (n : ℕ) (last : Device) (before after : Outputs) : Type 0 where
+-- The same of a reply: the value is the number k, or none
+pub record Tells (pins n : ℕ) (d : Device) (said : Value) : Type 0 where
+  pub names : (k : ℕ) → said ≡ number k → First pins n d k
+  pub named : (k : ℕ) → First pins n d k → said ≡ number k
+  pub none-said : said ≡ Value.none → Never pins n d
+  pub none-rises : Never pins n d → said ≡ Value.none
+
+-- What a replay leaves: the machine's state, its replies as they read back from the answers, and what lies past them as it was
+pub record Same (m : Ran) (n : ℕ) (last : Device) (before after : List ℕ) : Type 0 where
   pub state : last ≡ m .device
   pub replies : repliesIn n after ≡ m .replies
-  pub codes-past : drop n (after .codes) ≡ drop n (before .codes)
-  pub values-past : drop n (after .values) ≡ drop n (before .values)
-  pub nones-past : drop n (after .nones) ≡ drop n (before .nones)
+  pub past : drop (n * answerWords) after ≡ drop (n * answerWords) before
 
 -- Demand 3
 pub record Demand3 : Type 0 where
@@ -128,9 +134,17 @@ pub record Demand3 : Type 0 where
   pub looks : (d : Device) (pins n : ℕ) (answer : LookAnswer)
       → look-reads.Learnt tt (d, (pins, (n, tt))) answer (d, (pins, (n, tt))) → replyOfLook answer .code ≡ 0
       → Looks pins n d answer
+  -- a look ahead at any place of any list from what reset gives the kind, 51 or 52: if it passes, it names k exactly when cycle k is
+  -- the first in which a flag rises, of those that its pin byte makes from the state which the machine has there, and none exactly
+  -- when there is none
+  pub looks-in-lists : (kind : ℕ) {a : Answer} (before after : List Call) (pins n : ℕ) (earlier later : List Reply) (r : Reply) {last : Device}
+      → reset-reads.Learnt tt (kind, tt) a (kind, tt)
+      → Chained (before ++ (Call.look pins n ∷ after)) (a .device) (earlier ++ (r ∷ later)) last
+      → length earlier ≡ length before → r .code ≡ 0
+      → Tells pins n (machine kind before .device) (r .value)
   -- every list whose arguments fit their types is spelled by a script, where its slices can be addressed
-  pub spelled : (cs : List Call) → Each Fits cs → Addressable 8 (length cs) → Addressable 4 (length (lentOf cs))
+  pub spelled : (cs : List Call) → Each Fits cs → Addressable 8 (length cs * callWords) → Addressable 4 (length (lentOf cs))
       → Spells (scriptOf cs) cs
   -- what `replay` is promised to leave, of a script that spells a list
-  pub replayed : (cs : List Call) (s : Script) (d last : Device) (before after : Outputs) → Spells s cs → Room (length cs) before
+  pub replayed : (cs : List Call) (s : Script) (d last : Device) (before after : List ℕ) → Spells s cs → Room (length cs) before
       → Replayed d s before last after → Same (run cs d) (length cs) last before after

@@ -1,99 +1,153 @@
--- How a script spells a list of calls, and how the answers to it are written down.
-use Prim.Native.Nat.{ℕ, zero, suc, _-_, _%_, min}
+-- How a script spells a list of calls, and how the answers to it are written down: rows of words, one after the other.
+use Prim.Native.Nat.{ℕ, zero, suc, _-_, _/_, _%_, _^_, min}
 use mathlib.Core.Path.{_≡_}
 use mathlib.Core.Bool.{cond}
-use mathlib.Core.List.{List, [], _∷_, _++_, map}
+use mathlib.Core.List.{List, [], _∷_, _++_}
 use lib.ListN.{length, getD, take, drop}
 use lib.Dec.{leb, eqb}
 use Rattle.machine.specs.declared.Device.{Device}
 use Rattle.machine.specs.declared.Answer.{Answer}
+use Rattle.machine.specs.declared.RunAnswer.{RunAnswer}
 use Rattle.machine.specs.declared.CycleAnswer.{CycleAnswer}
 use Rattle.machine.specs.declared.TakeAnswer.{TakeAnswer}
 use Rattle.machine.specs.declared.ReadAnswer.{ReadAnswer}
 use Rattle.machine.specs.declared.OfferAnswer.{OfferAnswer}
 use Rattle.machine.specs.declared.LookAnswer.{LookAnswer}
-use Rattle.machine.specs.Lists.{Call, Value, Reply, Played, Ran, run, machine, says, played, replyOf, replyOfCycle, replyOfTake, replyOfRead, replyOfOffer, replyOfLook}
-use Rattle.machine.specs.Lists.Value.{number, none}
+use Rattle.machine.specs.Lists.{Call, Value, Reply, Played, Ran, run, machine, says, played, replyOf, replyOfRun, replyOfCycle, replyOfTake, replyOfRead, replyOfOffer, replyOfLook}
+use Rattle.machine.specs.Lists.Value.{numbers, none}
 use Rattle.lists.specs.declared.Shown.{Shown}
 
--- A script: at each place a call's number, a byte, a word, and the start and the end of a part of the lent entries
+-- Calls
+
+-- the words of a call: its number and two arguments
+abbrev pub callWords : ℕ
+callWords = 3
+
+-- a script: the rows of the calls, and the entries that its traces are lent
 pub record Script : Type 0 where
-  pub ops : List ℕ
-  pub bytes : List ℕ
-  pub words : List ℕ
-  pub starts : List ℕ
-  pub ends : List ℕ
+  pub calls : List ℕ
   pub lent : List ℕ
 
-abbrev pub script : List ℕ → List ℕ → List ℕ → List ℕ → List ℕ → List ℕ → Script
-script ops bytes words starts ends lent =
-    record { ops = ops; bytes = bytes; words = words; starts = starts; ends = ends; lent = lent }
+abbrev pub script : List ℕ → List ℕ → Script
+script calls lent = record { calls = calls; lent = lent }
 
 -- the entries from a start to an end; none where these are not in order or not in range
 unfoldable pub partOf : List ℕ → ℕ → ℕ → List ℕ
 partOf lent start end = cond (leb start end) (cond (leb end (length lent)) (take (end - start) (drop start lent)) []) []
 
--- the call that stands at a place: the byte is a kind, an address or a pin byte, the word a value (its low 8 bits) or n
-unfoldable pub callOf : ℕ → ℕ → ℕ → ℕ → ℕ → List ℕ → Call
-callOf op byte word start end lent =
-    cond (eqb op 0) (Call.reset byte)
-    (cond (eqb op 1) (Call.read byte)
-    (cond (eqb op 2) (Call.write byte (word % 256))
-    (cond (eqb op 3) (Call.cycle byte)
-    (cond (eqb op 4) (Call.jump byte word)
-    (cond (eqb op 5) (Call.trace (partOf lent start end))
-    (cond (eqb op 6) (Call.look byte word)
-    (cond (eqb op 7) Call.offer
-    (cond (eqb op 8) Call.take Call.return))))))))
+-- a kind, an address, a value or a pin byte: the low 8 bits of a word
+abbrev pub byteIn : ℕ → ℕ
+byteIn word = word % 256
 
-abbrev pub callAt : Script → ℕ → Call
-callAt s i =
-    callOf (getD (s .ops) i 0) (getD (s .bytes) i 0) (getD (s .words) i 0) (getD (s .starts) i 0) (getD (s .ends) i 0) (s .lent)
+-- the calls by their numbers; every other number is a return
+abbrev pub RESET : ℕ
+RESET = 0
 
--- n calls, from place i on
-unfoldable pub callsFrom : Script → ℕ → ℕ → List Call
-callsFrom s i zero = []
-callsFrom s i (suc n) = callAt s i ∷ callsFrom s (suc i) n
+abbrev pub READ : ℕ
+READ = 1
 
--- Where the answers are written: for each call its code, its value, and 1 where the value is none
-pub record Outputs : Type 0 where
-  pub codes : List ℕ
-  pub values : List ℕ
-  pub nones : List ℕ
+abbrev pub WRITE : ℕ
+WRITE = 2
 
-abbrev pub outputs : List ℕ → List ℕ → List ℕ → Outputs
-outputs codes values nones = record { codes = codes; values = values; nones = nones }
+abbrev pub CYCLE : ℕ
+CYCLE = 3
 
--- the shortest of eight lengths
-unfoldable pub shortest : ℕ → ℕ → ℕ → ℕ → ℕ → ℕ → ℕ → ℕ → ℕ
-shortest a b c d e f g h = min a (min b (min c (min d (min e (min f (min g h))))))
+abbrev pub JUMP : ℕ
+JUMP = 4
 
--- as many calls as the shortest slice has entries
-abbrev pub count : Script → Outputs → ℕ
-count s o =
-    shortest (length (s .ops)) (length (s .bytes)) (length (s .words)) (length (s .starts)) (length (s .ends)) (length (o .codes))
-    (length (o .values))
-    (length (o .nones))
+abbrev pub TRACE : ℕ
+TRACE = 5
 
--- the list that a script spells
-unfoldable pub callsOf : Script → Outputs → List Call
-callsOf s o = callsFrom s 0 (count s o)
+abbrev pub LOOK : ℕ
+LOOK = 6
 
--- a value as it is written: its number, and 0 beside the mark of none
-abbrev pub valueOf : Value → ℕ
-valueOf (number k) = k
-valueOf none = 0
+abbrev pub OFFER : ℕ
+OFFER = 7
 
-abbrev pub noneOf : Value → ℕ
-noneOf (number k) = 0
-noneOf none = 1
+abbrev pub TAKE : ℕ
+TAKE = 8
 
--- a reply, and the device after the call
+abbrev pub RETURN : ℕ
+RETURN = 9
+
+-- the call of a row, from its number and its arguments
+unfoldable pub callOf : ℕ → ℕ → ℕ → List ℕ → Call
+callOf op first second lent =
+    cond (eqb op RESET) (Call.reset (byteIn first))
+    (cond (eqb op READ) (Call.read (byteIn first))
+    (cond (eqb op WRITE) (Call.write (byteIn first) (byteIn second))
+    (cond (eqb op CYCLE) (Call.cycle (byteIn first))
+    (cond (eqb op JUMP) (Call.jump (byteIn first) second)
+    (cond (eqb op TRACE) (Call.trace (partOf lent first second))
+    (cond (eqb op LOOK) (Call.look (byteIn first) second)
+    (cond (eqb op OFFER) Call.offer
+    (cond (eqb op TAKE) Call.take
+    Call.return))))))))
+
+-- the call of the first row, and those of the first n rows
+abbrev pub firstCall : List ℕ → List ℕ → Call
+firstCall rows lent = callOf (getD rows 0 0) (getD rows 1 0) (getD rows 2 0) lent
+
+unfoldable pub callsIn : ℕ → List ℕ → List ℕ → List Call
+callsIn zero rows lent = []
+callsIn (suc n) rows lent = firstCall rows lent ∷ callsIn n (drop callWords rows) lent
+
+-- Answers
+
+-- the numbers that an answer has room for, and its words: its code, how many numbers it gives or the mark of none, and the numbers
+abbrev pub mostNumbers : ℕ
+mostNumbers = 1
+
+abbrev pub answerWords : ℕ
+answerWords = 3
+
+abbrev pub noneMark : ℕ
+noneMark = 2 ^ 64 - 1
+
+abbrev pub countOf : Value → ℕ
+countOf (numbers ns) = length ns
+countOf none = noneMark
+
+abbrev pub numbersOf : Value → List ℕ
+numbersOf (numbers ns) = ns
+numbersOf none = []
+
+-- n numbers: those of a list, and 0 past them
+abbrev pub padded : ℕ → List ℕ → List ℕ
+padded zero ns = []
+padded (suc n) [] = 0 ∷ padded n []
+padded (suc n) (m ∷ ns) = m ∷ padded n ns
+
+-- a reply as a row, and all replies
+abbrev pub rowOf : Reply → List ℕ
+rowOf r = r .code ∷ countOf (r .value) ∷ padded mostNumbers (numbersOf (r .value))
+
+unfoldable pub rowsOf : List Reply → List ℕ
+rowsOf [] = []
+rowsOf (r ∷ rs) = rowOf r ++ rowsOf rs
+
+-- the answers with all replies written down, and what lies past them as it was
+unfoldable pub written : List Reply → List ℕ → List ℕ
+written rs answers = rowsOf rs ++ drop (length (rowsOf rs)) answers
+
+-- a row read back, and the first n rows
+abbrev pub firstReply : List ℕ → Reply
+firstReply rows =
+    says (getD rows 0 0) (cond (eqb (getD rows 1 0) noneMark) none (numbers (take (getD rows 1 0) (drop 2 rows))))
+
+unfoldable pub repliesIn : ℕ → List ℕ → List Reply
+repliesIn zero rows = []
+repliesIn (suc n) rows = firstReply rows ∷ repliesIn n (drop answerWords rows)
+
+-- what the code writes down of a call: the row, and the device after it
 abbrev pub shown : Played → Shown
-shown p = record { code = p .reply .code; value = valueOf (p .reply .value); none = noneOf (p .reply .value); device = p .device }
+shown p = record { row = rowOf (p .reply); device = p .device }
 
 abbrev pub shownPlain : Answer → Shown
 shownPlain a = shown (played (replyOf a) (a .device))
+
+abbrev pub shownRun : RunAnswer → Shown
+shownRun a = shown (played (replyOfRun a) (a .device))
 
 abbrev pub shownCycle : CycleAnswer → Shown
 shownCycle a = shown (played (replyOfCycle a) (a .device))
@@ -110,45 +164,24 @@ shownOffer a d = shown (played (replyOfOffer a) d)
 abbrev pub shownLook : LookAnswer → Device → Shown
 shownLook a d = shown (played (replyOfLook a) d)
 
--- one output: a number for each reply, and what lies past the list as it was
-unfoldable pub filled : (Reply → ℕ) → List Reply → List ℕ → List ℕ
-filled f rs out = map f rs ++ drop (length rs) out
+-- A replay
 
-abbrev pub codeIn : Reply → ℕ
-codeIn r = r .code
+-- as many calls as both slices have whole rows for
+unfoldable pub rows : List ℕ → List ℕ → ℕ
+rows calls answers = min (length calls / callWords) (length answers / answerWords)
 
-abbrev pub valueIn : Reply → ℕ
-valueIn r = valueOf (r .value)
-
-abbrev pub noneIn : Reply → ℕ
-noneIn r = noneOf (r .value)
-
--- all replies written down
-abbrev pub written : List Reply → Outputs → Outputs
-written rs o = outputs (filled codeIn rs (o .codes)) (filled valueIn rs (o .values)) (filled noneIn rs (o .nones))
-
--- the same read back: a reply from its code, its value and its mark, and the first n replies
-abbrev pub replyFrom : ℕ → ℕ → ℕ → Reply
-replyFrom c v k = says c (cond (eqb k 1) none (number v))
-
-unfoldable pub repliesFrom : ℕ → List ℕ → List ℕ → List ℕ → List Reply
-repliesFrom zero cs vs ks = []
-repliesFrom (suc n) [] vs ks = []
-repliesFrom (suc n) (c ∷ cs) [] ks = []
-repliesFrom (suc n) (c ∷ cs) (v ∷ vs) [] = []
-repliesFrom (suc n) (c ∷ cs) (v ∷ vs) (k ∷ ks) = replyFrom c v k ∷ repliesFrom n cs vs ks
-
-abbrev pub repliesIn : ℕ → Outputs → List Reply
-repliesIn n o = repliesFrom n (o .codes) (o .values) (o .nones)
+-- the list that a script spells
+unfoldable pub callsOf : Script → List ℕ → List Call
+callsOf s answers = callsIn (rows (s .calls) answers) (s .calls) (s .lent)
 
 -- what a replay ends with is what a machine ended with: every answer, and the state
-pub record Answered (m : Ran) (last : Device) (before after : Outputs) : Type 0 where
+pub record Answered (m : Ran) (last : Device) (before after : List ℕ) : Type 0 where
   pub state : last ≡ m .device
   pub answers : after ≡ written (m .replies) before
 
 -- a script from any device, and from what reset gives a kind
-abbrev pub Replayed : Device → Script → Outputs → Device → Outputs → Type 0
+abbrev pub Replayed : Device → Script → List ℕ → Device → List ℕ → Type 0
 Replayed d s before last after = Answered (run (callsOf s before) d) last before after
 
-abbrev pub ReplayedFromReset : ℕ → Script → Outputs → Device → Outputs → Type 0
+abbrev pub ReplayedFromReset : ℕ → Script → List ℕ → Device → List ℕ → Type 0
 ReplayedFromReset kind s before last after = Answered (machine kind (callsOf s before)) last before after

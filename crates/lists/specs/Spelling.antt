@@ -1,11 +1,11 @@
--- A script for every list of calls: each call's number, byte and word at its place, and the entries of all traces one after the other.
+-- A script for every list of calls: a row for each call, and the entries of all traces one after the other.
 use Prim.Native.Nat.{ℕ, _+_, _*_, _^_, _<_, _≤_}
 use mathlib.Core.Path.{_≡_}
-use mathlib.Core.List.{List, [], _∷_, _++_, map}
+use mathlib.Core.List.{List, [], _∷_, _++_}
 use lib.ListN.{length}
 use Rattle.machine.specs.Lists.{Call}
 use Rattle.machine.specs.Lists.Call.{reset, read, write, cycle, jump, trace, look, offer, take, return}
-use Rattle.lists.specs.Script.{Script, script, Outputs, callsOf}
+use Rattle.lists.specs.Script.{Script, script, RESET, READ, WRITE, CYCLE, JUMP, TRACE, LOOK, OFFER, TAKE, RETURN, answerWords, callsOf}
 
 -- What a list of numbers must be to be a slice
 
@@ -41,41 +41,14 @@ Fits return = Unit {0}
 
 -- How a call is spelled
 
-unfoldable pub opOf : Call → ℕ
-opOf (reset kind) = 0
-opOf (read a) = 1
-opOf (write a v) = 2
-opOf (cycle pins) = 3
-opOf (jump pins n) = 4
-opOf (trace es) = 5
-opOf (look pins n) = 6
-opOf offer = 7
-opOf take = 8
-opOf return = 9
+-- its number and its arguments
+pub record Spelt : Type 0 where
+  pub op : ℕ
+  pub first : ℕ
+  pub second : ℕ
 
-unfoldable pub byteOf : Call → ℕ
-byteOf (reset kind) = kind
-byteOf (read a) = a
-byteOf (write a v) = a
-byteOf (cycle pins) = pins
-byteOf (jump pins n) = pins
-byteOf (trace es) = 0
-byteOf (look pins n) = pins
-byteOf offer = 0
-byteOf take = 0
-byteOf return = 0
-
-unfoldable pub wordOf : Call → ℕ
-wordOf (reset kind) = 0
-wordOf (read a) = 0
-wordOf (write a v) = v
-wordOf (cycle pins) = 0
-wordOf (jump pins n) = n
-wordOf (trace es) = 0
-wordOf (look pins n) = n
-wordOf offer = 0
-wordOf take = 0
-wordOf return = 0
+abbrev spelt : ℕ → ℕ → ℕ → Spelt
+spelt op first second = record { op = op; first = first; second = second }
 
 -- the entries that a call is lent
 unfoldable pub entriesOf : Call → List ℕ
@@ -90,34 +63,41 @@ entriesOf offer = []
 entriesOf take = []
 entriesOf return = []
 
+-- each call; its entries stand after k that are lent to the calls before
+unfoldable pub spell : ℕ → Call → Spelt
+spell k (reset kind) = spelt RESET kind 0
+spell k (read a) = spelt READ a 0
+spell k (write a v) = spelt WRITE a v
+spell k (cycle pins) = spelt CYCLE pins 0
+spell k (jump pins n) = spelt JUMP pins n
+spell k (trace es) = spelt TRACE k (k + length es)
+spell k (look pins n) = spelt LOOK pins n
+spell k offer = spelt OFFER 0 0
+spell k take = spelt TAKE 0 0
+spell k return = spelt RETURN 0 0
+
+-- its row
+abbrev pub rowOfCall : ℕ → Call → List ℕ
+rowOfCall k c = spell k c .op ∷ spell k c .first ∷ spell k c .second ∷ []
+
+-- the rows of a list, and all entries
+unfoldable pub rowsOfCalls : ℕ → List Call → List ℕ
+rowsOfCalls k [] = []
+rowsOfCalls k (c ∷ cs) = rowOfCall k c ++ rowsOfCalls (k + length (entriesOf c)) cs
+
 unfoldable pub lentOf : List Call → List ℕ
 lentOf [] = []
 lentOf (c ∷ cs) = entriesOf c ++ lentOf cs
 
--- where they start and end, after k that are lent to the calls before
-unfoldable pub startsOf : ℕ → List Call → List ℕ
-startsOf k [] = []
-startsOf k (c ∷ cs) = k ∷ startsOf (k + length (entriesOf c)) cs
-
-unfoldable pub endsOf : ℕ → List Call → List ℕ
-endsOf k [] = []
-endsOf k (c ∷ cs) = (k + length (entriesOf c)) ∷ endsOf (k + length (entriesOf c)) cs
-
 abbrev pub scriptOf : List Call → Script
-scriptOf cs = script (map opOf cs) (map byteOf cs) (map wordOf cs) (startsOf 0 cs) (endsOf 0 cs) (lentOf cs)
+scriptOf cs = script (rowsOfCalls 0 cs) (lentOf cs)
 
--- the outputs have room for n answers
-pub record Room (n : ℕ) (o : Outputs) : Type 0 where
-  pub codes : n ≤ length (o .codes)
-  pub values : n ≤ length (o .values)
-  pub nones : n ≤ length (o .nones)
+-- answers have room for n rows
+abbrev pub Room : ℕ → List ℕ → Type 0
+Room n answers = n * answerWords ≤ length answers
 
--- a script of slices that spells a list, whatever outputs with room for its answers are lent with it
+-- a script of slices that spells a list, whatever answers with room for its replies are lent with it
 pub record Spells (s : Script) (cs : List Call) : Type 0 where
-  pub ops : Slice 1 (s .ops)
-  pub bytes : Slice 1 (s .bytes)
-  pub words : Slice 8 (s .words)
-  pub starts : Slice 8 (s .starts)
-  pub ends : Slice 8 (s .ends)
+  pub calls : Slice 8 (s .calls)
   pub lent : Slice 4 (s .lent)
-  pub calls : (o : Outputs) → Room (length cs) o → callsOf s o ≡ cs
+  pub spelled : (answers : List ℕ) → Room (length cs) answers → callsOf s answers ≡ cs

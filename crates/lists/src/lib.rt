@@ -1,45 +1,80 @@
 // Whole lists of calls: `replay` runs a script through the public calls of `c51`, each call on the device as the one before left it.
-// What a script spells is said in specs/Script.antt, and demand 3 in specs/Demand3.antt.
+// A script is rows of words, and so are its answers: specs/Script.antt says what they spell, and specs/Demand3.antt states demand 3.
 ghost use mathlib.Core.Path.{_≡_};
-ghost use Prim.Native.Nat.{min};
+ghost use Prim.Native.Nat.{_/_, min};
 ghost use Rattle.machine.specs.Lists.{play};
-ghost use Rattle.lists.specs.Script.{script, outputs, partOf, callOf, callsOf, shortest, shown, shownPlain, shownCycle, shownTake, shownRead, shownOffer, shownLook, Replayed, ReplayedFromReset};
+ghost use Rattle.lists.specs.Script.{script, callWords, answerWords, partOf, byteIn, callOf, shown, shownPlain, shownRun, shownCycle, shownTake, shownRead, shownOffer, shownLook, Replayed, ReplayedFromReset};
 use machine::Answer;
 use machine::CycleAnswer;
 use machine::Device;
 use machine::LookAnswer;
 use machine::OfferAnswer;
 use machine::ReadAnswer;
+use machine::RunAnswer;
 use machine::TakeAnswer;
 
-// What a call answers, as it is written down: its code, its value, 1 where the value is none; and the device after it.
+// The words of a call: its number and two arguments.
+pub const CALL_WORDS: usize = 3;
+
+// The words of an answer: its code, how many numbers it gives or NONE, and the number or 0.
+pub const ANSWER_WORDS: usize = 3;
+
+// The mark of an answer that says none.
+pub const NONE: u64 = 0xffff_ffff_ffff_ffff;
+
+// The calls by their numbers; every other number is a return.
+const RESET: u64 = 0;
+
+const READ: u64 = 1;
+
+const WRITE: u64 = 2;
+
+const CYCLE: u64 = 3;
+
+const JUMP: u64 = 4;
+
+const TRACE: u64 = 5;
+
+const LOOK: u64 = 6;
+
+const OFFER: u64 = 7;
+
+const TAKE: u64 = 8;
+
+// What a call answers, as the row that is written down; and the device after it.
 pub struct Shown {
-    pub code: u8,
-    pub value: u64,
-    pub none: u8,
+    pub row: [u64; ANSWER_WORDS],
     pub device: Device,
 }
 
+// A call that answers only that it passed.
 fn shown_plain(a: Answer) -> Shown
     ensures { λ r. ⌜ r ≡ shownPlain a ⌝ }
 {
     let e = a.device;
     Shown {
-        code: a.code,
-        value: 0,
-        none: 0,
+        row: [a.code as u64, 0, 0],
         device: e,
     }
 }
 
+fn shown_run(a: RunAnswer) -> Shown
+    ensures { λ r. ⌜ r ≡ shownRun a ⌝ }
+{
+    let e = a.device;
+    Shown {
+        row: [a.code as u64, 0, 0],
+        device: e,
+    }
+}
+
+// One that answers a number.
 fn shown_cycle(a: CycleAnswer) -> Shown
     ensures { λ r. ⌜ r ≡ shownCycle a ⌝ }
 {
     let e = a.device;
     Shown {
-        code: a.code,
-        value: a.line as u64,
-        none: 0,
+        row: [a.code as u64, 1, a.line as u64],
         device: e,
     }
 }
@@ -49,9 +84,7 @@ fn shown_take(a: TakeAnswer) -> Shown
 {
     let e = a.device;
     Shown {
-        code: a.code,
-        value: a.vector as u64,
-        none: 0,
+        row: [a.code as u64, 1, a.vector as u64],
         device: e,
     }
 }
@@ -62,15 +95,11 @@ fn shown_read(a: ReadAnswer, d: Device) -> Shown
 {
     match a {
         ReadAnswer::Refused(k) => Shown {
-            code: k,
-            value: 0,
-            none: 0,
+            row: [k as u64, 1, 0],
             device: d,
         },
         ReadAnswer::Value(v) => Shown {
-            code: 0,
-            value: v as u64,
-            none: 0,
+            row: [0, 1, v as u64],
             device: d,
         },
     }
@@ -81,21 +110,15 @@ fn shown_offer(a: OfferAnswer, d: Device) -> Shown
 {
     match a {
         OfferAnswer::Refused(k) => Shown {
-            code: k,
-            value: 0,
-            none: 0,
+            row: [k as u64, 1, 0],
             device: d,
         },
         OfferAnswer::Vector(v) => Shown {
-            code: 0,
-            value: v as u64,
-            none: 0,
+            row: [0, 1, v as u64],
             device: d,
         },
         OfferAnswer::Nothing => Shown {
-            code: 0,
-            value: 0,
-            none: 1,
+            row: [0, NONE, 0],
             device: d,
         },
     }
@@ -106,21 +129,15 @@ fn shown_look(a: LookAnswer, d: Device) -> Shown
 {
     match a {
         LookAnswer::Refused(k) => Shown {
-            code: k,
-            value: 0,
-            none: 0,
+            row: [k as u64, 1, 0],
             device: d,
         },
         LookAnswer::At(k) => Shown {
-            code: 0,
-            value: k,
-            none: 0,
+            row: [0, 1, k],
             device: d,
         },
         LookAnswer::Nothing => Shown {
-            code: 0,
-            value: 0,
-            none: 1,
+            row: [0, NONE, 0],
             device: d,
         },
     }
@@ -143,123 +160,66 @@ fn part(lent: &[u32], start: u64, end: u64) -> &[u32]
     }
 }
 
-// One call of a script, by the public calls.
-fn play_one(d: Device, op: u8, byte: u8, word: u64, start: u64, end: u64, lent: &[u32]) -> Shown
-    ensures { λ r. ⌜ r ≡ shown (play (callOf op byte word start end (now (lent .entry))) d) ⌝ }
+// A kind, an address, a value or a pin byte: the low 8 bits of a word.
+fn byte_in(word: u64) -> u8
+    ensures { λ r. ⌜ r ≡ byteIn word ⌝ }
+{
+    (word % 256) as u8
+}
+
+// One call of a script, by the public calls. This is the one place that tells calls by their numbers.
+fn play_one(d: Device, op: u64, first: u64, second: u64, lent: &[u32]) -> Shown
+    ensures { λ r. ⌜ r ≡ shown (play (callOf op first second (now (lent .entry))) d) ⌝ }
 {
     match op {
-        0 => shown_plain(c51::reset(byte)),
-        1 => shown_read(c51::read(d, byte), d),
-        2 => shown_plain(c51::write(d, byte, (word & 0xff) as u8)),
-        3 => shown_cycle(c51::cycle(d, byte)),
-        4 => shown_plain(c51::jump(d, byte, word)),
-        5 => shown_plain(c51::trace(d, part(lent, start, end))),
-        6 => shown_look(c51::look(d, byte, word), d),
-        7 => shown_offer(c51::offer(d), d),
-        8 => shown_take(c51::take(d)),
+        RESET => shown_plain(c51::reset(byte_in(first))),
+        READ => shown_read(c51::read(d, byte_in(first)), d),
+        WRITE => shown_plain(c51::write(d, byte_in(first), byte_in(second))),
+        CYCLE => shown_cycle(c51::cycle(d, byte_in(first))),
+        JUMP => shown_run(c51::jump(d, byte_in(first), second)),
+        TRACE => shown_run(c51::trace(d, part(lent, first, second))),
+        LOOK => shown_look(c51::look(d, byte_in(first), second), d),
+        OFFER => shown_offer(c51::offer(d), d),
+        TAKE => shown_take(c51::take(d)),
         _ => shown_plain(c51::reti(d)),
     }
 }
 
-fn shorter(a: usize, b: usize) -> usize
-    ensures { λ r. ⌜ r ≡ min a b ⌝ }
+// The calls that both slices have whole rows for.
+fn rows_of(calls: usize, answers: usize) -> usize
+    ensures { λ r. ⌜ r ≡ min (calls / callWords) (answers / answerWords) ⌝ }
 {
-    if a <= b { a } else { b }
+    let given = calls / CALL_WORDS;
+    let room = answers / ANSWER_WORDS;
+    if given <= room { given } else { room }
 }
 
-// The shortest of eight lengths.
-fn shortest_of(
-    a: usize,
-    b: usize,
-    c: usize,
-    d: usize,
-    e: usize,
-    f: usize,
-    g: usize,
-    h: usize,
-) -> usize
-    ensures { λ r. ⌜ r ≡ shortest a b c d e f g h ⌝ }
+// A whole script from any device. What lies past its answers stays.
+pub fn replay(d: Device, calls: &[u64], lent: &[u32], answers: &mut [u64]) -> Device
+    ensures { λ r. ⌜ Replayed d (script (now (calls .entry)) (now (lent .entry))) (now (answers .entry)) r (now (answers .exit)) ⌝ }
 {
-    shorter(
-        a,
-        shorter(
-            b,
-            shorter(c, shorter(d, shorter(e, shorter(f, shorter(g, h))))),
-        ),
-    )
-}
-
-// A whole script from any device, as many calls as its shortest slice has entries. What lies past them in the outputs stays.
-pub fn replay(
-    d: Device,
-    ops: &[u8],
-    bytes: &[u8],
-    words: &[u64],
-    starts: &[u64],
-    ends: &[u64],
-    lent: &[u32],
-    codes: &mut [u8],
-    values: &mut [u64],
-    nones: &mut [u8],
-) -> Device
-    ensures { λ r. ⌜ Replayed d
-        (script (now (ops .entry)) (now (bytes .entry)) (now (words .entry)) (now (starts .entry)) (now (ends .entry)) (now (lent .entry)))
-        (outputs (now (codes .entry)) (now (values .entry)) (now (nones .entry))) r
-        (outputs (now (codes .exit)) (now (values .exit)) (now (nones .exit))) ⌝ }
-{
-    let n = shortest_of(
-        ops.len(),
-        bytes.len(),
-        words.len(),
-        starts.len(),
-        ends.len(),
-        codes.len(),
-        values.len(),
-        nones.len(),
-    );
-    let mut now_at = d;
+    let n = rows_of(calls.len(), answers.len());
+    let mut at = d;
     let mut i = 0;
     while i < n {
-        let p = play_one(now_at, ops[i], bytes[i], words[i], starts[i], ends[i], lent);
-        codes[i] = p.code;
-        values[i] = p.value;
-        nones[i] = p.none;
-        now_at = p.device;
+        let from = i * CALL_WORDS;
+        let p = play_one(at, calls[from], calls[from + 1], calls[from + 2], lent);
+        let row = p.row;
+        let to = i * ANSWER_WORDS;
+        answers[to] = row[0];
+        answers[to + 1] = row[1];
+        answers[to + 2] = row[2];
+        at = p.device;
         i += 1;
     }
-    now_at
+    at
 }
 
 // A whole script from what reset gives a kind.
-pub fn replay_from_reset(
-    kind: u8,
-    ops: &[u8],
-    bytes: &[u8],
-    words: &[u64],
-    starts: &[u64],
-    ends: &[u64],
-    lent: &[u32],
-    codes: &mut [u8],
-    values: &mut [u64],
-    nones: &mut [u8],
-) -> Device
-    ensures { λ r. ⌜ ReplayedFromReset kind
-        (script (now (ops .entry)) (now (bytes .entry)) (now (words .entry)) (now (starts .entry)) (now (ends .entry)) (now (lent .entry)))
-        (outputs (now (codes .entry)) (now (values .entry)) (now (nones .entry))) r
-        (outputs (now (codes .exit)) (now (values .exit)) (now (nones .exit))) ⌝ }
+pub fn replay_from_reset(kind: u8, calls: &[u64], lent: &[u32], answers: &mut [u64]) -> Device
+    ensures { λ r. ⌜ ReplayedFromReset kind (script (now (calls .entry)) (now (lent .entry))) (now (answers .entry)) r (now (answers .exit)) ⌝ }
 {
     let a = c51::reset(kind);
     let d = a.device;
-    replay(
-        d,
-        ops,
-        bytes,
-        words,
-        starts,
-        ends,
-        lent,
-        codes,
-        values,
-        nones,
-    )
+    replay(d, calls, lent, answers)
 }

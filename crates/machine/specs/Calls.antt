@@ -1,17 +1,16 @@
 -- Document 01, "Jumps, traces, looking ahead", "The plain machine" and "Refused calls": the answer of each call and the device after it.
 -- Refusals are judged in the table's order, but for a trace, which has its own; a refused call leaves the device as given, but for a
 -- refused reset, which leaves the record of zeros.
-use Prim.Native.Nat.{ℕ, zero, suc, _+_, _/_, _%_, _^_}
-use mathlib.Core.Bool.{Bool, true, false, cond, _&&_, _||_, not}
+use Prim.Native.Nat.{ℕ, zero, suc, _^_}
+use mathlib.Core.Bool.{Bool, false, cond, _||_}
 use mathlib.Core.List.{List, [], _∷_}
 use lib.Dec.{eqb, leb}
 use lib.ListN.{length}
 use Rattle.machine.specs.declared.Timers.{Timers}
-use Rattle.machine.specs.declared.Timer2.{Timer2}
-use Rattle.machine.specs.declared.Serial.{Serial}
 use Rattle.machine.specs.declared.Interrupts.{Interrupts}
 use Rattle.machine.specs.declared.Device.{Device}
 use Rattle.machine.specs.declared.Answer.{Answer}
+use Rattle.machine.specs.declared.RunAnswer.{RunAnswer}
 use Rattle.machine.specs.declared.CycleAnswer.{CycleAnswer}
 use Rattle.machine.specs.declared.TakeAnswer.{TakeAnswer}
 use Rattle.machine.specs.declared.ReadAnswer.{ReadAnswer}
@@ -20,12 +19,13 @@ use Rattle.machine.specs.declared.OfferAnswer.{OfferAnswer}
 use Rattle.machine.specs.declared.OfferAnswer.the-variants as Offer
 use Rattle.machine.specs.declared.LookAnswer.{LookAnswer}
 use Rattle.machine.specs.declared.LookAnswer.the-variants as Look
-use Rattle.machine.specs.Bits.{bit, field}
-use Rattle.machine.specs.Registers.{PCON, TCON, TMOD, TL0, TL1, TH0, TH1, SCON, SBUF, IE, IP, T2CON, RCAP2L, RCAP2H, TL2, TH2, TF0, TF1, IE0, IE1, RI, TI, TF2, EXF2, lacks, kept}
+use Rattle.machine.specs.Bits.{field}
+use Rattle.machine.specs.Registers.{PCON, TCON, TMOD, TL0, TL1, TH0, TH1, SCON, SBUF, IE, IP, T2CON, RCAP2L, RCAP2H, TL2, TH2, lacks, kept}
 use Rattle.machine.specs.Record.{Register, registers, accepted, pinsOk, kindOk, zeros, resetOf}
 use Rattle.machine.specs.Serial.{lineOf, writeSbuf, writeScon}
 use Rattle.machine.specs.Interrupts.{Source, offered, vectorOf, inService, taken, noneInService, returned}
 use Rattle.machine.specs.Interrupts.Source.{none, source}
+use Rattle.machine.specs.Flags.{flags, anyRises}
 use Rattle.machine.specs.Cycle.{cycleOf, refused9, cycles, anyRefused9}
 
 -- a call that answers only that it passed
@@ -36,9 +36,13 @@ passed d = record { code = 0; device = d }
 abbrev pub refuse : ℕ → Device → Answer
 refuse n d = record { code = n; device = d }
 
+-- unless a condition holds, a refusal; the refusals of a call then stand in their order, and what it does stands last
+abbrev pub unless : {A : Type 0} → Bool → A → A → A
+unless holds refused passes = cond holds passes refused
+
 -- Reset: 2 with another kind, and a record all zero, kind 0
 unfoldable pub resetAnswer : ℕ → Answer
-resetAnswer kind = cond (kindOk kind) (passed (resetOf kind)) (refuse 2 zeros)
+resetAnswer kind = unless (kindOk kind) (refuse 2 zeros) (passed (resetOf kind))
 
 -- Read: the register, for SBUF the received byte
 
@@ -52,7 +56,9 @@ registerAt d a = valueIn (registers d) a
 
 unfoldable pub readAnswer : Device → ℕ → ReadAnswer
 readAnswer d a =
-    cond (accepted d) (cond (lacks (d .kind) a) (Read.Refused 3) (Read.Value (registerAt d a))) (Read.Refused 1)
+    unless (accepted d) (Read.Refused 1)
+    (cond (lacks (d .kind) a) (Read.Refused 3)
+    (Read.Value (registerAt d a)))
 
 -- Write
 
@@ -103,9 +109,9 @@ stored d a v =
 -- a write stores the implemented bits
 unfoldable pub writeAnswer : Device → ℕ → ℕ → Answer
 writeAnswer d a v =
-    cond (accepted d)
-    (cond (lacks (d .kind) a) (refuse 3 d) (passed (stored d a (kept (d .kind) a v))))
-    (refuse 1 d)
+    unless (accepted d) (refuse 1 d)
+    (cond (lacks (d .kind) a) (refuse 3 d)
+    (passed (stored d a (kept (d .kind) a v))))
 
 -- Cycle: steps 1 to 8; it answers the line as the cycle leaves it
 abbrev pub refuseCycle : ℕ → Device → CycleAnswer
@@ -116,11 +122,17 @@ passedCycle d = record { code = 0; line = lineOf (d .serial); device = d }
 
 unfoldable pub cycleAnswer : Device → ℕ → CycleAnswer
 cycleAnswer d pins =
-    cond (accepted d)
-    (cond (pinsOk pins) (cond (refused9 pins d) (refuseCycle 9 d) (passedCycle (cycleOf pins d))) (refuseCycle 4 d))
-    (refuseCycle 1 d)
+    unless (accepted d) (refuseCycle 1 d)
+    (unless (pinsOk pins) (refuseCycle 4 d)
+    (cond (refused9 pins d) (refuseCycle 9 d)
+    (passedCycle (cycleOf pins d))))
 
 -- Jump: n cycles with one pin byte; if one of them is refused, the whole call is, by that number
+abbrev pub refuseRun : ℕ → Device → RunAnswer
+refuseRun n d = record { code = n; device = d }
+
+abbrev pub passedRun : Device → RunAnswer
+passedRun d = record { code = 0; device = d }
 
 -- the most cycles of a jump, and the most entries of a trace
 abbrev pub longest : ℕ
@@ -129,13 +141,13 @@ longest = 2 ^ 40
 abbrev pub mostEntries : ℕ
 mostEntries = 65536
 
-unfoldable pub jumpAnswer : Device → ℕ → ℕ → Answer
+unfoldable pub jumpAnswer : Device → ℕ → ℕ → RunAnswer
 jumpAnswer d pins n =
-    cond (accepted d)
-    (cond (pinsOk pins)
-    (cond (leb n longest) (cond (anyRefused9 n pins d) (refuse 9 d) (passed (cycles n pins d))) (refuse 5 d))
-    (refuse 4 d))
-    (refuse 1 d)
+    unless (accepted d) (refuseRun 1 d)
+    (unless (pinsOk pins) (refuseRun 4 d)
+    (unless (leb n longest) (refuseRun 5 d)
+    (cond (anyRefused9 n pins d) (refuseRun 9 d)
+    (passedRun (cycles n pins d)))))
 
 -- Trace run: an entry has the pin byte on top and the cycles in its low 24 bits
 abbrev pub entryPins : ℕ → ℕ
@@ -144,14 +156,21 @@ entryPins e = field 24 8 e
 abbrev pub entryCycles : ℕ → ℕ
 entryCycles e = field 0 24 e
 
--- the first bad entry's number, 4 before 8 within it, or 0
+-- the number by which an entry is refused, 4 before 8, or 0
+unfoldable pub entryFault : ℕ → ℕ
+entryFault e =
+    unless (pinsOk (entryPins e)) 4
+    (cond (eqb (entryCycles e) 0) 8
+    0)
+
+-- the first bad entry's number, or 0
 unfoldable pub firstBad : List ℕ → ℕ
 firstBad [] = 0
-firstBad (e ∷ es) = cond (pinsOk (entryPins e)) (cond (eqb (entryCycles e) 0) 8 (firstBad es)) 4
+firstBad (e ∷ es) = cond (eqb (entryFault e) 0) (firstBad es) (entryFault e)
 
 -- a trace is checked whole before it runs: 5 goes first, then the first bad entry; or 0
 unfoldable pub traceFault : List ℕ → ℕ
-traceFault es = cond (leb (length es) mostEntries) (firstBad es) 5
+traceFault es = unless (leb (length es) mostEntries) 5 (firstBad es)
 
 -- the cycles of each entry in turn
 unfoldable pub traceCycles : List ℕ → Device → Device
@@ -164,32 +183,14 @@ traceRefused9 [] d = false
 traceRefused9 (e ∷ es) d =
     anyRefused9 (entryCycles e) (entryPins e) d || traceRefused9 es (cycles (entryCycles e) (entryPins e) d)
 
-unfoldable pub traceAnswer : Device → List ℕ → Answer
+unfoldable pub traceAnswer : Device → List ℕ → RunAnswer
 traceAnswer d es =
-    cond (accepted d)
-    (cond (eqb (traceFault es) 0) (cond (traceRefused9 es d) (refuse 9 d) (passed (traceCycles es d))) (refuse (traceFault es) d))
-    (refuse 1 d)
+    unless (accepted d) (refuseRun 1 d)
+    (unless (eqb (traceFault es) 0) (refuseRun (traceFault es) d)
+    (cond (traceRefused9 es d) (refuseRun 9 d)
+    (passedRun (traceCycles es d))))
 
 -- Look ahead: document 01's term for asking when a flag will rise
-
--- the eight flags: TF0, TF1, IE0, IE1, RI, TI, TF2, EXF2
-unfoldable pub flags : Device → List ℕ
-flags d =
-    bit TF0 (d .timers .tcon)
-    ∷ bit TF1 (d .timers .tcon)
-    ∷ bit IE0 (d .timers .tcon)
-    ∷ bit IE1 (d .timers .tcon)
-    ∷ bit RI (d .serial .scon)
-    ∷ bit TI (d .serial .scon)
-    ∷ bit TF2 (d .timer2 .t2con)
-    ∷ bit EXF2 (d .timer2 .t2con)
-    ∷ []
-
--- one rises in a cycle that finds it 0 and leaves it 1
-unfoldable pub anyRises : List ℕ → List ℕ → Bool
-anyRises [] after = false
-anyRises (b ∷ before) [] = false
-anyRises (b ∷ before) (a ∷ after) = (eqb b 0 && eqb a 1) || anyRises before after
 
 -- a flag rises in the next cycle
 abbrev pub rises : ℕ → Device → Bool
@@ -203,11 +204,11 @@ firstRise k (suc n) pins d = cond (rises pins d) (Look.At (suc k)) (firstRise (s
 -- a look ahead makes the jump of its n cycles on a copy of the state
 unfoldable pub lookAnswer : Device → ℕ → ℕ → LookAnswer
 lookAnswer d pins n =
-    cond (accepted d)
-    (cond (pinsOk pins)
-    (cond (leb n longest) (cond (anyRefused9 n pins d) (Look.Refused 9) (firstRise 0 n pins d)) (Look.Refused 5))
-    (Look.Refused 4))
-    (Look.Refused 1)
+    unless (accepted d) (Look.Refused 1)
+    (unless (pinsOk pins) (Look.Refused 4)
+    (unless (leb n longest) (Look.Refused 5)
+    (cond (anyRefused9 n pins d) (Look.Refused 9)
+    (firstRise 0 n pins d))))
 
 -- Offer: the vector, or none
 unfoldable pub offerOf : Source → OfferAnswer
@@ -215,7 +216,7 @@ offerOf none = Offer.Nothing
 offerOf (source k) = Offer.Vector (vectorOf k)
 
 unfoldable pub offerAnswer : Device → OfferAnswer
-offerAnswer d = cond (accepted d) (offerOf (offered (d .interrupts))) (Offer.Refused 1)
+offerAnswer d = unless (accepted d) (Offer.Refused 1) (offerOf (offered (d .interrupts)))
 
 -- Take: the vector; 6 with nothing offered
 
@@ -249,11 +250,11 @@ takeOf d (source k) =
     }
 
 unfoldable pub takeAnswer : Device → TakeAnswer
-takeAnswer d = cond (accepted d) (takeOf d (offered (d .interrupts))) (refuseTake 1 d)
+takeAnswer d = unless (accepted d) (refuseTake 1 d) (takeOf d (offered (d .interrupts)))
 
 -- Return: 7 with nothing in service
 unfoldable pub returnAnswer : Device → Answer
 returnAnswer d =
-    cond (accepted d)
-    (cond (noneInService (d .interrupts)) (refuse 7 d) (passed (withInterrupts (d .timers) (returned (d .interrupts)) d)))
-    (refuse 1 d)
+    unless (accepted d) (refuse 1 d)
+    (cond (noneInService (d .interrupts)) (refuse 7 d)
+    (passed (withInterrupts (d .timers) (returned (d .interrupts)) d)))

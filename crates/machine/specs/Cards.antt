@@ -1,23 +1,24 @@
 -- Document 01, "Bench cards": the cards marked P, and the last card's rule on TF1, as one table with one proof.
 -- Each row is a list of calls from reset, run through the plain machine. From reset, pins high.
-use Prim.Native.Nat.{ℕ, zero, suc, _+_}
+use Prim.Native.Nat.{ℕ}
 use mathlib.Core.Path.{_≡_, refl}
 use mathlib.Core.Bool.{Bool, true, false, cond, _&&_}
 use mathlib.Core.List.{List, [], _∷_, _++_, map}
 use lib.Dec.{eqb}
 use Rattle.machine.specs.declared.Device.{Device}
 use Rattle.machine.specs.Registers.{PCON, TCON, TMOD, TL0, TL1, TH0, TH1, SCON, SBUF, IE, IP, T2CON, RCAP2L, RCAP2H, TL2, TH2, table, implementedIn, implemented}
-use Rattle.machine.specs.Record.{registers, hiddenFields, accepted, pinsOf, levelsOf, blank, zeros, resetOf}
+use Rattle.machine.specs.Record.{registers, hiddenFields, accepted, pinsOf, levelsOf, zeros, resetOf}
 use Rattle.machine.specs.Counting.{count13, count16, reload8, count8, hold}
 use Rattle.machine.specs.Timers.{enabled, clocked, countIn, flagged, counts0, counts1, countsHigh0, pair0, high0, highOverflow0, pair1, timerFlags, timersStep}
 use Rattle.machine.specs.Timer2.{countOnce, countTimes, baudRate, countsOf2, heedsT2EX, captures, counted2, baudStep, copied2, captureStep, timer2Step}
-use Rattle.machine.specs.Serial.{halfAfter, ticks1, ticksOf, serialTicks, sendMove, sendTick, sendTicks, send, lineOf, receiveStart, receiveRolled, receiveCounted, votesAdded, bitOf, frameDone, receiveBit, receiveWork, receiveTick, receiveTicks, receiveShift, receive, serialStep, sendRolls, receiveRolls, rollsTwice, writeSbuf, receiveAsked, writeScon}
+use Rattle.machine.specs.Serial.{halfAfter, ticks1, ticksOf, serialTicks, sendMove, sendTick, sendTicks, send, lineOf, startFound, receiveStart, receiveRolled, receiveCounted, votesAdded, bitOf, frameDone, receiveBit, receiveWork, receiveTick, receiveTicks, receiveShift, receive, serialStep, sendRolls, receiveRolls, rollsTwice, writeSbuf, receiveAsked, writeScon}
 use Rattle.machine.specs.Interrupts.{external, either, seenOf, firstOf, offered, inService, taken, returned}
-use Rattle.machine.specs.Cycle.{falls, externals, timersAfter, timer2After, ticksIn, steps as stepsOf, cycleOf, refused9, cycles, anyRefused9}
-use Rattle.machine.specs.Calls.{resetAnswer, valueIn, registerAt, readAnswer, stored, writeAnswer, cycleAnswer, jumpAnswer, firstBad, traceFault, traceCycles, traceRefused9, traceAnswer, flags, anyRises, firstRise, lookAnswer, offerOf, offerAnswer, takeOf, takeAnswer, returnAnswer}
-use Rattle.machine.specs.Lists.{Call, Value, Reply, Ran, says, play, run, machine}
+use Rattle.machine.specs.Flags.{flags, anyRises}
+use Rattle.machine.specs.Cycle.{falls, counted, externals, timersAfter, timer2After, ticksIn, steps as stepsOf, cycleOf, refused9, cycles, anyRefused9}
+use Rattle.machine.specs.Calls.{resetAnswer, valueIn, registerAt, readAnswer, stored, writeAnswer, cycleAnswer, jumpAnswer, entryFault, firstBad, traceFault, traceCycles, traceRefused9, traceAnswer, firstRise, lookAnswer, offerOf, offerAnswer, takeOf, takeAnswer, returnAnswer}
+use Rattle.machine.specs.Lists.{Call, Value, Reply, Ran, nothing, number, says, play, run, machine}
 use Rattle.machine.specs.Lists.Call.{read, write, cycle, jump, look, offer, take, return}
-use Rattle.machine.specs.Lists.Value.{number, none}
+use Rattle.machine.specs.Lists.Value.{numbers, none}
 
 -- a row: the card's place in document 01, the kind, the calls, and what has to hold of the run
 pub record Row : Type 0 where
@@ -26,10 +27,16 @@ pub record Row : Type 0 where
   pub calls : List Call
   pub test : Ran → Bool
 
+sameNumbers : List ℕ → List ℕ → Bool
+sameNumbers [] [] = true
+sameNumbers [] (b ∷ bs) = false
+sameNumbers (a ∷ more) [] = false
+sameNumbers (a ∷ more) (b ∷ bs) = eqb a b && sameNumbers more bs
+
 sameValue : Value → Value → Bool
-sameValue (number a) (number b) = eqb a b
-sameValue (number a) none = false
-sameValue none (number b) = false
+sameValue (numbers ms) (numbers ns) = sameNumbers ms ns
+sameValue (numbers ms) none = false
+sameValue none (numbers ns) = false
 sameValue none none = true
 
 sameReply : Reply → Reply → Bool
@@ -49,6 +56,10 @@ record Asked : Type 0 where
 abbrev asked : Call → Reply → Asked
 asked c r = record { call = c; reply = r }
 
+-- it passes, and gives a number
+abbrev passes : Reply
+passes = says 0 nothing
+
 abbrev gives : ℕ → Reply
 gives n = says 0 (number n)
 
@@ -64,11 +75,11 @@ lowRXD = 0x7e
 
 -- write v at a
 abbrev set : ℕ → ℕ → Asked
-set a v = asked (write a v) (gives 0)
+set a v = asked (write a v) passes
 
 -- n cycles by one jump, pins high
 abbrev go : ℕ → Asked
-go n = asked (jump high n) (gives 0)
+go n = asked (jump high n) passes
 
 -- one cycle, whose line stays high
 abbrev step : ℕ → Asked
@@ -249,7 +260,7 @@ card9 kind =
     ∷ offers 0x23
     ∷ asked take (gives 0x23)
     ∷ offersNone
-    ∷ asked return (gives 0)
+    ∷ asked return passes
     ∷ offers 0x0b
     ∷ []
     )
@@ -311,5 +322,5 @@ failing (r ∷ rs) = cond (r .test (machine (r .kind) (r .calls))) (failing rs) 
 
 -- no row fails
 cards-hold : failing cards ≡ []
-unfolding sameValue sameReply sameReplies rowWith card1 card2 card3 card4 baud2 card5 card5counted mode1send card6 card6half card7 card8 card8shift card9 card10 both joined cards failing table implementedIn implemented registers hiddenFields accepted pinsOf levelsOf zeros resetOf count13 count16 reload8 count8 hold enabled clocked countIn flagged counts0 counts1 countsHigh0 pair0 high0 highOverflow0 pair1 timerFlags timersStep countOnce countTimes baudRate countsOf2 heedsT2EX captures counted2 baudStep copied2 captureStep timer2Step halfAfter ticks1 ticksOf serialTicks sendMove sendTick sendTicks send lineOf receiveStart receiveRolled receiveCounted votesAdded bitOf frameDone receiveBit receiveWork receiveTick receiveTicks receiveShift receive serialStep sendRolls receiveRolls rollsTwice writeSbuf receiveAsked writeScon external either seenOf firstOf offered inService taken returned falls externals timersAfter timer2After ticksIn stepsOf cycleOf refused9 cycles anyRefused9 resetAnswer valueIn registerAt readAnswer stored writeAnswer cycleAnswer jumpAnswer firstBad traceFault traceCycles traceRefused9 traceAnswer flags anyRises firstRise lookAnswer offerOf offerAnswer takeOf takeAnswer returnAnswer play run machine
+unfolding sameNumbers sameValue sameReply sameReplies rowWith card1 card2 card3 card4 baud2 card5 card5counted mode1send card6 card6half card7 card8 card8shift card9 card10 both joined cards failing table implementedIn implemented registers hiddenFields accepted pinsOf levelsOf zeros resetOf count13 count16 reload8 count8 hold enabled clocked countIn flagged counts0 counts1 countsHigh0 pair0 high0 highOverflow0 pair1 timerFlags timersStep countOnce countTimes baudRate countsOf2 heedsT2EX captures counted2 baudStep copied2 captureStep timer2Step halfAfter ticks1 ticksOf serialTicks sendMove sendTick sendTicks send lineOf startFound receiveStart receiveRolled receiveCounted votesAdded bitOf frameDone receiveBit receiveWork receiveTick receiveTicks receiveShift receive serialStep sendRolls receiveRolls rollsTwice writeSbuf receiveAsked writeScon external either seenOf firstOf offered inService taken returned falls counted externals timersAfter timer2After ticksIn stepsOf cycleOf refused9 cycles anyRefused9 resetAnswer valueIn registerAt readAnswer stored writeAnswer cycleAnswer jumpAnswer entryFault firstBad traceFault traceCycles traceRefused9 traceAnswer flags anyRises firstRise lookAnswer offerOf offerAnswer takeOf takeAnswer returnAnswer play run machine
 cards-hold = refl

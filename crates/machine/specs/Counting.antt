@@ -1,6 +1,6 @@
 -- Counting: a count of w bits, its overflow, and one count of a timer's register pair in each mode.
-use Prim.Native.Nat.{ℕ, zero, suc, _+_, _*_, _/_, _%_, _^_}
-use mathlib.Core.Bool.{Bool, cond}
+use Prim.Native.Nat.{ℕ, _+_, _*_, _/_, _%_, _^_}
+use mathlib.Core.Bool.{cond}
 use lib.Dec.{eqb}
 use Rattle.machine.specs.declared.Count.{Count}
 

@@ -1,14 +1,13 @@
 -- Document 01, "One cycle, in this order": steps 1 to 8. P is the saved level of a pin, L its level now.
 use Prim.Native.Nat.{ℕ, zero, suc, _+_, _%_, _^_}
-use mathlib.Core.Bool.{Bool, true, false, cond, _&&_, _||_}
+use mathlib.Core.Bool.{Bool, false, cond, _&&_, _||_}
 use mathlib.Core.List.{List}
 use lib.Dec.{eqb}
 use lib.ListN.{getD}
 use Rattle.machine.specs.declared.Timers.{Timers}
-use Rattle.machine.specs.declared.TimersCounted.{TimersCounted}
 use Rattle.machine.specs.declared.Timer2.{Timer2}
-use Rattle.machine.specs.declared.Timer2Counted.{Timer2Counted}
-use Rattle.machine.specs.declared.Serial.{Serial}
+use Rattle.machine.specs.declared.Counted.{Counted}
+use Rattle.machine.specs.declared.Overflows.{Overflows}
 use Rattle.machine.specs.declared.Ticks.{Ticks}
 use Rattle.machine.specs.declared.Interrupts.{Interrupts}
 use Rattle.machine.specs.declared.Device.{Device}
@@ -60,25 +59,40 @@ timer2After saved pins t =
       due2 = falls saved pins T2;
     }
 
--- step 4, with what steps 2 and 3 hand on: the overflows of Timers 1 and 2
-unfoldable pub ticksIn : Device → TimersCounted → Timer2Counted → Ticks
-ticksIn d t u = serialTicks (d .pcon) (d .timer2 .t2con) (d .serial) (t .overflow1) (u .overflows)
+-- steps 2 and 3: what the timers count in a cycle, the pin byte as the kind takes it
+unfoldable pub counted : Device → ℕ → Counted
+counted d pins =
+    record { timers = timersStep (d .timers) pins; timer2 = timer2Step (d .timer2) (falls (d .levels) pins T2EX) }
 
--- steps 1 to 8, the pin byte as the kind takes it: t is step 2, u step 3, s steps 4 and 5, v steps 6 and 7; step 7 of Timer 2 is
--- timer2After, steps 1 and 8 are polling, and step 8 saves the levels and counts the cycle
+-- the overflows of a cycle: Timer 0 (TL0 in mode 3), TH0 in mode 3, Timer 1, Timer 2
+abbrev pub overflowsOf : Counted → Overflows
+overflowsOf c =
+    record {
+      timer0 = c .timers .overflow0;
+      th0 = c .timers .«overflow_th0»;
+      timer1 = c .timers .overflow1;
+      timer2 = c .timer2 .overflows;
+    }
+
+-- step 4, with what steps 2 and 3 hand on: the overflows of Timers 1 and 2
+unfoldable pub ticksIn : Device → Counted → Ticks
+ticksIn d c = serialTicks (d .pcon) (d .timer2 .t2con) (d .serial) (c .timers .overflow1) (c .timer2 .overflows)
+
+-- steps 1 to 8, the pin byte as the kind takes it: c is steps 2 and 3, s steps 4 and 5, t and u steps 6 and 7; steps 1 and 8 are
+-- polling, and step 8 saves the levels and counts the cycle
 unfoldable pub steps : Device → ℕ → Device
 steps d pins =
-    let t = timersStep (d .timers) pins in
-    let u = timer2Step (d .timer2) (falls (d .levels) pins T2EX) in
-    let s = serialStep (ticksIn d t u) (bit RXD pins) (d .serial) in
-    let v = timersAfter (d .levels) pins (t .timers) in
+    let c = counted d pins in
+    let s = serialStep (ticksIn d c) (bit RXD pins) (d .serial) in
+    let t = timersAfter (d .levels) pins (c .timers .timers) in
+    let u = timer2After (d .levels) pins (c .timer2 .timer2) in
     record {
       kind = d .kind;
       pcon = d .pcon;
-      timers = v;
-      timer2 = timer2After (d .levels) pins (u .timer2);
+      timers = t;
+      timer2 = u;
       serial = s;
-      interrupts = polling (seenOf (v .tcon) (s .scon) (u .timer2 .t2con)) (d .interrupts);
+      interrupts = polling (seenOf (t .tcon) (s .scon) (u .t2con)) (d .interrupts);
       levels = levelsOf pins;
       cycle = (d .cycle + 1) % 2 ^ 64;
     }
@@ -91,9 +105,7 @@ cycleOf pins d = steps d (pinsOf (d .kind) pins)
 unfoldable pub refused9 : ℕ → Device → Bool
 refused9 pins d =
     let l = pinsOf (d .kind) pins in
-    let t = timersStep (d .timers) l in
-    let u = timer2Step (d .timer2) (falls (d .levels) l T2EX) in
-    rollsTwice (ticksIn d t u) (bit RXD l) (d .serial)
+    rollsTwice (ticksIn d (counted d l)) (bit RXD l) (d .serial)
 
 -- n cycles with one pin byte
 unfoldable pub cycles : ℕ → ℕ → Device → Device

@@ -1,12 +1,11 @@
 -- Document 01, "One cycle", steps 6 and 8 (seen), and "Interrupts": external interrupts, offer, take, return.
 use Prim.Native.Nat.{ℕ, _+_, _*_}
-use mathlib.Core.Bool.{Bool, true, false, cond, _&&_, _||_}
+use mathlib.Core.Bool.{Bool, cond, _&&_, _||_}
 use mathlib.Core.List.{List, [], _∷_}
 use lib.Dec.{eqb}
 use lib.ListN.{getD}
-use Rattle.machine.specs.declared.Timers.{Timers}
 use Rattle.machine.specs.declared.Interrupts.{Interrupts}
-use Rattle.machine.specs.Bits.{bit, setBit, clearBit, putBit}
+use Rattle.machine.specs.Bits.{bit, setBit, clearBit}
 use Rattle.machine.specs.Registers.{TF0, TF1, IE0, IE1, IT0, IT1, RI, TI, TF2, EXF2, EA}
 
 -- Step 6: with ITi = 1 a fall sets IEi; with ITi = 0, IEi = 1 - L

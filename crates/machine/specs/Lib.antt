@@ -6,6 +6,7 @@ pub mod Timers
 pub mod Timer2
 pub mod Serial
 pub mod Interrupts
+pub mod Flags
 pub mod Cycle
 pub mod Calls
 pub mod Lists

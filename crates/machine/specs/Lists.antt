@@ -3,6 +3,7 @@ use Prim.Native.Nat.{ℕ}
 use mathlib.Core.List.{List, [], _∷_}
 use Rattle.machine.specs.declared.Device.{Device}
 use Rattle.machine.specs.declared.Answer.{Answer}
+use Rattle.machine.specs.declared.RunAnswer.{RunAnswer}
 use Rattle.machine.specs.declared.CycleAnswer.{CycleAnswer}
 use Rattle.machine.specs.declared.TakeAnswer.{TakeAnswer}
 use Rattle.machine.specs.declared.ReadAnswer.{ReadAnswer}
@@ -11,7 +12,6 @@ use Rattle.machine.specs.declared.OfferAnswer.{OfferAnswer}
 use Rattle.machine.specs.declared.OfferAnswer.the-variants as Offer
 use Rattle.machine.specs.declared.LookAnswer.{LookAnswer}
 use Rattle.machine.specs.declared.LookAnswer.the-variants as Look
-use Rattle.machine.specs.Record.{resetOf}
 use Rattle.machine.specs.Calls.{resetAnswer, readAnswer, writeAnswer, cycleAnswer, jumpAnswer, traceAnswer, lookAnswer, offerAnswer, takeAnswer, returnAnswer}
 
 -- a call with its arguments other than the device
@@ -27,10 +27,17 @@ pub data Call : Type 0 where
   take : Call
   return : Call
 
--- the number that an answer carries beside its code; none is told apart from every number
+-- what an answer carries beside its code: its numbers, as many as the call answers, or none, which is told apart from every number
 pub data Value : Type 0 where
-  number : ℕ → Value
+  numbers : List ℕ → Value
   none : Value
+
+-- a call that answers only that it passed, and one that answers a number
+abbrev pub nothing : Value
+nothing = numbers []
+
+abbrev pub number : ℕ → Value
+number n = numbers (n ∷ [])
 
 -- an answer as document 01 gives it: 0 or the refusal's number, and the value; any other number in a refused answer is 0
 pub record Reply : Type 0 where
@@ -42,7 +49,10 @@ says c v = record { code = c; value = v }
 
 -- each answer's number and value
 abbrev pub replyOf : Answer → Reply
-replyOf a = says (a .code) (number 0)
+replyOf a = says (a .code) nothing
+
+abbrev pub replyOfRun : RunAnswer → Reply
+replyOfRun a = says (a .code) nothing
 
 abbrev pub replyOfCycle : CycleAnswer → Reply
 replyOfCycle a = says (a .code) (number (a .line))
@@ -78,8 +88,8 @@ play (reset kind) d = played (replyOf (resetAnswer kind)) (resetAnswer kind .dev
 play (read a) d = played (replyOfRead (readAnswer d a)) d
 play (write a v) d = played (replyOf (writeAnswer d a v)) (writeAnswer d a v .device)
 play (cycle pins) d = played (replyOfCycle (cycleAnswer d pins)) (cycleAnswer d pins .device)
-play (jump pins n) d = played (replyOf (jumpAnswer d pins n)) (jumpAnswer d pins n .device)
-play (trace es) d = played (replyOf (traceAnswer d es)) (traceAnswer d es .device)
+play (jump pins n) d = played (replyOfRun (jumpAnswer d pins n)) (jumpAnswer d pins n .device)
+play (trace es) d = played (replyOfRun (traceAnswer d es)) (traceAnswer d es .device)
 play (look pins n) d = played (replyOfLook (lookAnswer d pins n)) d
 play offer d = played (replyOfOffer (offerAnswer d)) d
 play take d = played (replyOfTake (takeAnswer d)) (takeAnswer d .device)

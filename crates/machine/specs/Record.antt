@@ -1,14 +1,8 @@
 -- Document 01, "The device record": the fields in their order, their ranges, the pin byte, and reset.
 use Prim.Native.Nat.{ℕ, _-_, _^_}
-use mathlib.Core.Bool.{Bool, true, false, cond, _&&_, _||_}
-use mathlib.Core.List.{List, [], _∷_, _++_, map}
+use mathlib.Core.Bool.{Bool, true, cond, _&&_, _||_}
+use mathlib.Core.List.{List, [], _∷_}
 use lib.Dec.{eqb, leb, ltb}
-use Rattle.machine.specs.declared.Timers.{Timers}
-use Rattle.machine.specs.declared.Timer2.{Timer2}
-use Rattle.machine.specs.declared.Sender.{Sender}
-use Rattle.machine.specs.declared.Receiver.{Receiver}
-use Rattle.machine.specs.declared.Serial.{Serial}
-use Rattle.machine.specs.declared.Interrupts.{Interrupts}
 use Rattle.machine.specs.declared.Device.{Device}
 use Rattle.machine.specs.Bits.{bit, field, setBit}
 use Rattle.machine.specs.Registers.{PCON, TCON, TMOD, TL0, TL1, TH0, TH1, SCON, SBUF, IE, IP, T2CON, RCAP2L, RCAP2H, TL2, TH2, SM01, T2, T2EX, implemented, within}

@@ -1,7 +1,7 @@
 -- Document 01, "The device record", first paragraph: the registers, their addresses and implemented bits.
 -- The names of bits are those of document 003; a name stands for the bit's place.
 use Prim.Native.Nat.{ℕ}
-use mathlib.Core.Bool.{Bool, cond, not}
+use mathlib.Core.Bool.{Bool, cond}
 use mathlib.Core.List.{List, [], _∷_}
 use lib.Dec.{eqb}
 use lib.Bits.{bitAnd}

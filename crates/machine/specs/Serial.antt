@@ -1,7 +1,7 @@
 -- Document 01, "One cycle", steps 4 and 5, and "Serial port": ticks, sending, receiving, and the writes to SBUF and SCON.
 use Prim.Native.Nat.{ℕ, zero, suc, _+_, _-_, _*_, _%_}
-use mathlib.Core.Bool.{Bool, true, false, cond, _&&_, _||_, not}
-use lib.Dec.{eqb, leb, ltb}
+use mathlib.Core.Bool.{Bool, cond, _&&_, _||_, not}
+use lib.Dec.{eqb, leb}
 use Rattle.machine.specs.declared.Sender.{Sender}
 use Rattle.machine.specs.declared.Receiver.{Receiver}
 use Rattle.machine.specs.declared.Serial.{Serial}
@@ -20,11 +20,14 @@ halfAfter smod half overflow1 = cond (eqb smod 1) half ((half + overflow1) % 2)
 unfoldable pub ticks1 : ℕ → ℕ → ℕ → ℕ
 ticks1 smod half overflow1 = cond (eqb smod 1) overflow1 (cond (eqb half 1) overflow1 0)
 
--- the ticks of a direction: modes 1 and 3 by Timer 2 if its clock bit is set, otherwise by Timer 1; mode 2: 3, or 6 if SMOD = 1;
--- mode 0 has none
+-- mode 2: 3 ticks in every cycle, or 6 if SMOD = 1
+abbrev pub mode2Ticks : ℕ → ℕ
+mode2Ticks smod = cond (eqb smod 1) 6 3
+
+-- the ticks of a direction: modes 1 and 3 by Timer 2 if its clock bit is set, otherwise by Timer 1; mode 0 has none
 unfoldable pub ticksOf : ℕ → ℕ → ℕ → ℕ → ℕ → ℕ
 ticksOf mode smod clock by1 by2 =
-    cond (eqb mode 0) 0 (cond (eqb mode 2) (cond (eqb smod 1) 6 3) (cond (eqb clock 1) by2 by1))
+    cond (eqb mode 0) 0 (cond (eqb mode 2) (mode2Ticks smod) (cond (eqb clock 1) by2 by1))
 
 -- step 4, from PCON, T2CON, and the overflows of Timer 1 and Timer 2
 unfoldable pub serialTicks : ℕ → ℕ → Serial → ℕ → ℕ → Ticks
@@ -114,11 +117,15 @@ lineOf s =
 
 -- Receiving, modes 1-3, by ticks
 
--- resting: if REN = 1, last line sample 1 and RXD 0, the position becomes 1, counter and value 0
+-- a start bit: REN = 1, last line sample 1 and RXD 0
+unfoldable pub startFound : ℕ → Serial → Bool
+startFound rxd s = eqb (bit REN (s .scon)) 1 && (eqb (s .receive .sample) 1 && eqb rxd 0)
+
+-- resting: at a start bit the position becomes 1, counter and value 0
 unfoldable pub receiveStart : ℕ → Serial → Serial
 receiveStart rxd s =
     let r = s .receive in
-    cond (eqb (bit REN (s .scon)) 1 && (eqb (r .sample) 1 && eqb rxd 0))
+    cond (startFound rxd s)
     (withReceive (record { position = 1; value = 0; counter = 0; votes = r .votes; sample = r .sample }) s)
     s
 

@@ -7,7 +7,7 @@ use Rattle.machine.specs.declared.Timer2Counted.{Timer2Counted}
 use Rattle.machine.specs.declared.Counted16.{Counted16}
 use Rattle.machine.specs.Bits.{bit, setBit}
 use Rattle.machine.specs.Counting.{nextOr, overflow, pair16}
-use Rattle.machine.specs.Timers.{clocked, flagged}
+use Rattle.machine.specs.Timers.{flagged}
 use Rattle.machine.specs.Registers.{TF2, EXF2, RCLK, TCLK, EXEN2, TR2, C/T2, CP/RL2}
 
 -- RCAP2H:RCAP2L, and the count TH2:TL2

@@ -1,6 +1,7 @@
 // The types of the plain machine: the device record and its parts, what a step hands on, and the answers of the calls.
 // What the chip does is said in specs/, a file for each section of document 01.
 pub mod places;
+pub mod refusals;
 
 // The most cycles of a jump and of a look ahead, and the most entries of a trace.
 pub const LONGEST: u64 = 1 << 40;
@@ -112,6 +113,20 @@ pub struct Timer2Counted {
     pub tf2: u8,
 }
 
+// Steps 2 and 3: what the timers count in a cycle.
+pub struct Counted {
+    pub timers: TimersCounted,
+    pub timer2: Timer2Counted,
+}
+
+// The overflows of a cycle: of Timer 0 (TL0 in mode 3), of TH0 in mode 3, of Timer 1 and of Timer 2.
+pub struct Overflows {
+    pub timer0: u8,
+    pub th0: u8,
+    pub timer1: u8,
+    pub timer2: u8,
+}
+
 // Step 4: the ticks of the sender and of the receiver, and half after them.
 pub struct Ticks {
     pub send: u8,
@@ -119,15 +134,20 @@ pub struct Ticks {
     pub half: u8,
 }
 
-// The answer of reset, write, jump, trace run and return: 0 or the refusal's number, and the device.
+// The answer of reset, write and return: 0 or the refusal's number, and the device.
 #[repr(C)]
 pub struct Answer {
     pub code: u8,
     pub device: Device,
 }
 
+// The answer of a jump and of a trace run: 0 or the refusal's number, and the device.
+pub struct RunAnswer {
+    pub code: u8,
+    pub device: Device,
+}
+
 // The answer of a cycle: 0 and the output line, or the refusal's number and 0; and the device.
-#[repr(C)]
 pub struct CycleAnswer {
     pub code: u8,
     pub line: u8,
@@ -135,7 +155,6 @@ pub struct CycleAnswer {
 }
 
 // The answer of a take: 0 and the vector, or the refusal's number and 0; and the device.
-#[repr(C)]
 pub struct TakeAnswer {
     pub code: u8,
     pub vector: u8,

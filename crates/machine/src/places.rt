@@ -68,6 +68,16 @@ pub const CT2: u8 = 1;
 
 pub const CPRL2: u8 = 0;
 
+// The bits of the flags in TCON (TF1, TF0, IE1, IE0), in SCON (TI, RI) and in T2CON (TF2, EXF2).
+pub const TCON_FLAGS: u8 = 0xaa;
+
+pub const SCON_FLAGS: u8 = 0x03;
+
+pub const T2CON_FLAGS: u8 = 0xc0;
+
+// The bits of the six sources in IE, IP, seen and polled.
+pub const SOURCES: u8 = 0x3f;
+
 // The pin byte, and the saved levels.
 pub const RXD: u8 = 0;
 

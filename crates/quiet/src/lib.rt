@@ -9,6 +9,7 @@ ghost use Rattle.machine.specs.Timers as Step;
 ghost use Rattle.strides.specs.Busy.{same};
 ghost use Rattle.strides.specs.Stride as Stride;
 use laws::least;
+use laws::pair13;
 use laws::pair16;
 use machine::Count;
 use machine::Device;
@@ -24,11 +25,7 @@ use machine::places::INT0;
 use machine::places::INT1;
 use machine::places::IT0;
 use machine::places::IT1;
-use machine::places::MODE0;
-use machine::places::MODE1;
-use machine::places::REN;
 use machine::places::RXD;
-use machine::places::SM01;
 use machine::places::SMOD;
 use machine::places::T0;
 use machine::places::T1;
@@ -52,24 +49,17 @@ fn same_levels(saved: [u8; 7], l: u8) -> bool
 fn settled_timers(l: u8, t: Timers) -> bool
     ensures { λ r. ⌜ r ≡ Stride.timersSettled l t ⌝ }
 {
-    let level0 = (((t.tcon >> IT0) & 1) == 1) | (((t.tcon >> IE0) & 1) == 1 - ((l >> INT0) & 1));
-    let level1 = (((t.tcon >> IT1) & 1) == 1) | (((t.tcon >> IE1) & 1) == 1 - ((l >> INT1) & 1));
+    let level0 = (((t.tcon >> IT0) & 1) == 1) | (((t.tcon >> IE0) & 1) != ((l >> INT0) & 1));
+    let level1 = (((t.tcon >> IT1) & 1) == 1) | (((t.tcon >> IE1) & 1) != ((l >> INT1) & 1));
     ((t.due0 == 0) & (t.due1 == 0)) & (level0 & level1)
 }
 
-// A start bit that the next cycle finds: serial mode 2 ticks in every cycle.
-fn start_waits(rxd: u8, s: Serial) -> bool
-    ensures { λ r. ⌜ r ≡ Stride.startWaits rxd s ⌝ }
-{
-    ((((s.scon >> SM01) & 3) == 2) & (((s.scon >> REN) & 1) == 1))
-        & ((s.receive.sample == 1) & (rxd == 0))
-}
-
-// Both directions rest, and no start bit waits.
-fn settled_serial(rxd: u8, s: Serial) -> bool
+// Both directions rest, and the next cycle finds no start bit: serial mode 2 ticks in every cycle.
+pub fn settled_serial(rxd: u8, s: Serial) -> bool
     ensures { λ r. ⌜ r ≡ Stride.serialSettled rxd s ⌝ }
 {
-    ((s.send.position == 0) & (s.receive.position == 0)) & !start_waits(rxd, s)
+    let start_next = (serial::mode_of(s.scon) == 2) & serial::start_found(rxd, s);
+    ((s.send.position == 0) & (s.receive.position == 0)) & !start_next
 }
 
 // Seen and polled are the flags.
@@ -79,11 +69,20 @@ fn settled_interrupts(now: u8, i: Interrupts) -> bool
     (i.seen == now) & (i.polled == now)
 }
 
-// The 13 bits of mode 0: TH, and the low 5 of TL.
-fn pair13(tl: u8, th: u8) -> u16
-    ensures { λ r. ⌜ r ≡ Counting.pair13 tl th ⌝ }
+// The device is settled: a cycle without overflows finds nothing to do. The serial port is asked first.
+pub fn settled(d: Device, l: u8) -> bool
+    ensures { λ r. ⌜ r ≡ Stride.settledAt l d ⌝ }
 {
-    ((th as u16) << 5) | ((tl & 0x1f) as u16)
+    let s = d.serial;
+    if !settled_serial((l >> RXD) & 1, s) {
+        return false;
+    }
+    let saved = d.levels;
+    let t = d.timers;
+    let u = d.timer2;
+    let i = d.interrupts;
+    let flags = interrupts::seen_of(t.tcon, s.scon, u.t2con);
+    (same_levels(saved, l) & settled_timers(l, t)) & ((u.due2 == 0) & settled_interrupts(flags, i))
 }
 
 // The counts of a timer's pair before the one that overflows, in its mode: of 13 bits, of 16 bits, or of TL's 8.
@@ -101,10 +100,10 @@ fn left_in(mode: u8, tl: u8, th: u8) -> u16
 fn moves1(t: Timers, l: u8) -> bool
     ensures { λ r. ⌜ r ≡ Stride.moves1 t l ⌝ }
 {
-    timers::counts1(t, l) & !(((t.tmod >> MODE1) & 3) == 3)
+    timers::counts1(t, l) & !(timers::timer1_mode(t) == 3)
 }
 
-// The room of a timer's pair: of one that does not count a jump's most cycles.
+// The room of a timer's pair in its mode: of one that does not count a jump's most cycles.
 fn room_of(counts: bool, mode: u8, tl: u8, th: u8) -> u64
     ensures { λ r. ⌜ r ≡ Stride.roomOf counts (Stride.leftIn mode tl th) ⌝ }
 {
@@ -130,8 +129,8 @@ fn room_high0(t: Timers) -> u64
 fn room_timers(l: u8, t: Timers) -> u64
     ensures { λ r. ⌜ r ≡ Stride.roomTimers l t ⌝ }
 {
-    let low = room_of(timers::counts0(t, l), (t.tmod >> MODE0) & 3, t.tl0, t.th0);
-    let one = room_of(moves1(t, l), (t.tmod >> MODE1) & 3, t.tl1, t.th1);
+    let low = room_of(timers::counts0(t, l), timers::timer0_mode(t), t.tl0, t.th0);
+    let one = room_of(moves1(t, l), timers::timer1_mode(t), t.tl1, t.th1);
     least(low, least(room_high0(t), one))
 }
 
@@ -161,18 +160,9 @@ fn room2(t: Timer2) -> u64
 pub fn room(d: Device, l: u8) -> u64
     ensures { λ r. ⌜ r ≡ Stride.roomAt l d ⌝ }
 {
-    let s = d.serial;
-    if !settled_serial((l >> RXD) & 1, s) {
-        return 0;
-    }
-    let saved = d.levels;
-    let t = d.timers;
-    let u = d.timer2;
-    let i = d.interrupts;
-    let flags = interrupts::seen_of(t.tcon, s.scon, u.t2con);
-    if (same_levels(saved, l) & settled_timers(l, t))
-        & ((u.due2 == 0) & settled_interrupts(flags, i))
-    {
+    if settled(d, l) {
+        let t = d.timers;
+        let u = d.timer2;
         least(room_timers(l, t), room2(u))
     } else {
         0
@@ -265,11 +255,11 @@ fn stride_timers(m: u64, l: u8, t: Timers) -> Timers
     let low = moved(
         m,
         timers::counts0(t, l),
-        (t.tmod >> MODE0) & 3,
+        timers::timer0_mode(t),
         t.tl0,
         t.th0,
     );
-    let one = moved(m, moves1(t, l), (t.tmod >> MODE1) & 3, t.tl1, t.th1);
+    let one = moved(m, moves1(t, l), timers::timer1_mode(t), t.tl1, t.th1);
     let mut u = t;
     u.tl0 = low.tl;
     u.tl1 = one.tl;
@@ -300,8 +290,7 @@ fn ticks2(m: u64, smod: u8, scon: u8) -> u8
     ensures { λ r. ⌜ r ≡ Stride.ticks2 (m % 16) smod scon ⌝ }
 {
     let n = (m & 15) as u8;
-    let ticks = laws::picked(smod == 1, n * 6, n * 3);
-    laws::picked(((scon >> SM01) & 3) == 2, ticks, 0)
+    laws::picked(serial::mode_of(scon) == 2, n * serial::mode2_ticks(smod), 0)
 }
 
 // The serial port after m quiet cycles: the send counter takes the ticks, and the last line sample RXD.
@@ -309,7 +298,7 @@ fn stride_serial(m: u64, smod: u8, rxd: u8, s: Serial) -> Serial
     ensures { λ r. ⌜ r ≡ Stride.strideSerial m smod rxd s ⌝ }
 {
     let counter = ((s.send.counter & 15) + ticks2(m, smod, s.scon)) & 15;
-    let ticking = (((s.scon >> SM01) & 3) == 2) & !(m == 0);
+    let ticking = (serial::mode_of(s.scon) == 2) & !(m == 0);
     let sample = laws::picked(ticking, rxd, s.receive.sample);
     let mut u = s;
     u.send.counter = counter;

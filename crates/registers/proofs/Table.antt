@@ -1,15 +1,15 @@
--- A table of masks, eight addresses a row from 80 up on kind 51 and then on kind 52, holds the implemented bits: by a test that is
--- computed at each address of each kind.
+-- The table by its rows: a row has the implemented bits at its address, by a test that is computed at each row; and an address that no
+-- row has is lacking, by induction on the rows.
 use mathlib.Core.Path.{_≡_, refl, sym, _∙_}
 use mathlib.Core.Bool.{Bool, true, false, cond}
 use mathlib.Core.List.{List, [], _∷_}
-use Prim.Native.Nat.{ℕ, _/_, _<_}
-use lib.Dec.{T, eqb, ltb, eqb→eq}
-use borrow.Author.Tests.{ne-eqb}
-use lib.Bits.{bitAnd, bitOr}
+use Prim.Native.Nat.{ℕ, _<_}
+use lib.Dec.{T, eqb, eqb→eq}
 use lib.ListN.{getD}
+use borrow.Author.Tests.{ne-eqb}
 use Rattle.machine.specs.Registers.{Row, table, implementedIn, implemented}
 use Rattle.laws.proofs.Tests.{all, at}
+use Rattle.registers.specs.Places.{rowAt, addressAt}
 
 -- every kind other than 51 has the implemented bits of kind 52
 column : (kind : ℕ) (old : Bool) → eqb kind 51 ≡ old → (rows : List Row) (a : ℕ)
@@ -20,28 +20,36 @@ column kind false e [] a = refl
 column kind true e (r ∷ rows) a = rw (e, column kind true e rows a)
 column kind false e (r ∷ rows) a = rw (e, column kind false e rows a)
 
--- what the code looks up
-abbrev looked : List (List ℕ) → Bool → ℕ → ℕ
-looked rows old a =
-    cond (ltb a 0x80) 0
-    (cond old (getD (getD rows (bitAnd (a / 8) 15) []) (bitAnd a 7) 0) (getD (getD rows (bitOr (a / 8) 16) []) (bitAnd a 7) 0))
+-- what a row has for kind 51 or for the others
+abbrev bitsAt : Bool → ℕ → ℕ
+bitsAt old n = cond old (getD (rowAt n) 1 0) (getD (rowAt n) 2 0)
 
--- it is the implemented bits at address a, on kind 51 or on kind 52
-abbrev pub agrees : List (List ℕ) → Bool → ℕ → Bool
-agrees rows old a = eqb (looked rows old a) (implementedIn table (cond old 51 52) a)
+abbrev agrees : Bool → ℕ → Bool
+agrees old n = eqb (bitsAt old n) (implementedIn table (cond old 51 52) (addressAt n))
 
-tested : (rows : List (List ℕ)) → T (all (agrees rows true) 256) → T (all (agrees rows false) 256) → (old : Bool) → T (all (agrees rows old) 256)
-tested rows t u true = t
-tested rows t u false = u
+tested : (old : Bool) → T (all (agrees old) 16)
+unfolding rowAt table implementedIn
+tested true = tt
+tested false = tt
 
-pub look-up : (rows : List (List ℕ)) → T (all (agrees rows true) 256) → T (all (agrees rows false) 256) → (kind a : ℕ) → a < 256
-    → looked rows (eqb kind 51) a ≡ implemented kind a
+pub row-bits : (kind n : ℕ) → n < 16 → bitsAt (eqb kind 51) n ≡ implemented kind (addressAt n)
 unfolding implemented
-look-up rows t u kind a h =
+row-bits kind n h =
     let old = eqb kind 51 in
-    eqb→eq (looked rows old a) (implementedIn table (cond old 51 52) a) (at (agrees rows old) 256 (tested rows t u old) a h)
-    ∙ column kind old refl table a
+    eqb→eq (bitsAt old n) _ (at (agrees old) 16 (tested old) n h) ∙ column kind old refl table (addressAt n)
 
--- an address that is not that of a register
-pub misses : (a n : ℕ) → (a ≡ n → ⊥) → eqb n a ≡ false
-misses a n other = ne-eqb n a (λ e. other (sym e))
+-- an address is none of these rows', said as the last arm of a match says it: after what was said of the rows before
+abbrev pub Outside : ℕ → List Row → Type 0 → Type 0
+Outside a [] said = said
+Outside a (r ∷ rows) said = Outside a rows (said × (a ≡ r .address → ⊥))
+
+before : (a : ℕ) (rows : List Row) (said : Type 0) → Outside a rows said → said
+before a [] said h = h
+before a (r ∷ rows) said h = before a rows (said × (a ≡ r .address → ⊥)) h .0
+
+pub lacking : (kind a : ℕ) (rows : List Row) (said : Type 0) → Outside a rows said → implementedIn rows kind a ≡ 0
+unfolding implementedIn
+lacking kind a [] said h = refl
+lacking kind a (r ∷ rows) said h =
+    let other = before a rows (said × (a ≡ r .address → ⊥)) h .1 in
+    rw (ne-eqb (r .address) a (λ e. other (sym e))) (lacking kind a rows (said × (a ≡ r .address → ⊥)) h)

@@ -1,11 +1,17 @@
--- A row of tests: the code's `&` joins from the left, the definitions' `&&` from the right, and both hold where each test does; and an
--- array is the list of its elements. All by induction on the row.
+-- A row of tests: the code's `&` joins from the left, the definitions' `&&` from the right; an array is the list of its elements; and the
+-- record check's tests hold where each does. All by induction on the row.
 use mathlib.Core.Path.{_≡_, refl, sym, ap, _∙_}
-use mathlib.Core.Bool.{Bool, true, _&&_, and-true, and-assoc, and-eq-true-iff}
-use mathlib.Core.List.{List, [], _∷_}
-use Prim.Native.Nat.{ℕ, zero, suc}
+use mathlib.Core.Bool.{Bool, true, _&&_, and-true, and-assoc}
+use mathlib.Core.List.{List, [], _∷_, map}
+use Prim.Native.Nat.{ℕ, zero, suc, _≤_}
 use native.Mathlib.Omega.{arith}
+use lib.Dec.{leb}
 use lib.ListN.{length, getD}
+use borrow.Author.Tests.{leb-true, le-leb}
+use Rattle.machine.specs.declared.Device.{Device}
+use Rattle.machine.specs.Registers.{implemented, within}
+use Rattle.laws.proofs.Choices.{and-two}
+use Rattle.machine.specs.Record.{Register, registers, registersOk, Hidden, hiddenOk}
 
 -- from the left, as the code joins them
 abbrev leftly : Bool → List Bool → Bool
@@ -13,7 +19,7 @@ leftly b [] = b
 leftly b (x ∷ xs) = leftly (b && x) xs
 
 -- from the right, as the definitions do
-abbrev pub rightly : List Bool → Bool
+abbrev rightly : List Bool → Bool
 rightly [] = true
 rightly (x ∷ xs) = x && rightly xs
 
@@ -36,15 +42,33 @@ whole zero (x ∷ l) e = absurd (omega arith)
 whole (suc n) [] e = absurd (omega arith)
 whole (suc n) (x ∷ l) e = ap (λ (m : List ℕ). x ∷ m) (shifted n 0 x l ∙ whole n l (omega arith))
 
--- every test of a row holds
-abbrev pub Hold : List Bool → Type 0
-Hold [] = Unit
-Hold (x ∷ xs) = (x ≡ true) × Hold xs
+infixr 5 _&_
+-- a list of facts, one about each element
+pub data Each {A : Type 0} (P : A → Type 0) : List A → Type 0 where
+  done : Each P []
+  _&_ : {x : A} {xs : List A} → P x → Each P xs → Each P (x ∷ xs)
 
-pub each : (xs : List Bool) → rightly xs ≡ true → Hold xs
-each [] e = tt
-each (x ∷ xs) e = let h = and-eq-true-iff x (rightly xs) .0 e in (h .0, each xs (h .1))
+-- a register within its implemented bits, and the tests of a row of them
+abbrev pub Kept : ℕ → Register → Type 0
+Kept kind r = within (implemented kind (r .address)) (r .value) ≡ true
 
-pub every : (xs : List Bool) → Hold xs → rightly xs ≡ true
-every [] h = refl
-every (x ∷ xs) h = rw (h .0) (every xs (h .1))
+abbrev pub registerTests : Device → List Bool
+registerTests d = map (λ (r : Register). within (implemented (d .kind) (r .address)) (r .value)) (registers d)
+
+pub registers-every : (kind : ℕ) (rs : List Register) → Each (Kept kind) rs → registersOk kind rs ≡ true
+registers-every kind [] done = refl
+registers-every kind (r ∷ rs) (p & q) = rw p (registers-every kind rs q)
+
+-- a hidden field within its range
+abbrev pub Most : Hidden → Type 0
+Most h = h .value ≤ h .most
+
+pub hidden-each : (hs : List Hidden) → hiddenOk hs ≡ true → Each Most hs
+hidden-each [] e = done
+hidden-each (h ∷ hs) e =
+    let s = and-two (leb (h .value) (h .most)) (hiddenOk hs) e in
+    leb-true _ _ (s .0) & hidden-each hs (s .1)
+
+pub hidden-every : (hs : List Hidden) → Each Most hs → hiddenOk hs ≡ true
+hidden-every [] done = refl
+hidden-every (h ∷ hs) (p & q) = rw (le-leb _ _ p) (hidden-every hs q)

@@ -12,10 +12,9 @@ use Rattle.machine.specs.Record.{accepted}
 use Rattle.machine.specs.Serial.{writeScon, writeSbuf}
 use Rattle.machine.specs.Calls.{stored}
 use Rattle.laws.proofs.Bits.{and-twice}
-use Rattle.serial.specs.Ranges.{SerialOk}
 use Rattle.laws.proofs.Choices.{cond-has}
 use Rattle.serial.proofs.Ranges.{write-scon-ok, write-sbuf-ok}
-use Rattle.registers.specs.Ranges.{Ranges, Absent}
+use Rattle.laws.specs.Ranges.{Absent, SerialOk, Ranges}
 use Rattle.registers.proofs.Accepted.{ranges-of, accepted-of}
 
 module _ (d : Device) (a v : ℕ) (h : v < 256) (r : Ranges d) where
@@ -50,7 +49,7 @@ module _ (d : Device) (a v : ℕ) (h : v < 256) (r : Ranges d) where
   unfolding stored implemented implementedIn table
   absent e =
       let u = d .timer2 in
-      let z = r .timer2 .absent e in
+      let z = r .absent e in
       record {
         t2con = kept-gone T2CON (u .t2con) (simp e) (z .t2con);
         rcap2l = kept-gone RCAP2L (u .rcap2l) (simp e) (z .rcap2l);
@@ -97,8 +96,8 @@ module _ (d : Device) (a v : ℕ) (h : v < 256) (r : Ranges d) where
               tl2 = kept-byte TL2 (u .tl2) (r .timer2 .tl2);
               th2 = kept-byte TH2 (u .th2) (r .timer2 .th2);
               due2 = r .timer2 .due2;
-              absent = absent;
             };
+        absent = absent;
         serial = serial-kept;
         interrupts =
             record {

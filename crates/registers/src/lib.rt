@@ -1,8 +1,10 @@
 // The registers: the table of addresses and implemented bits, the record check, reads and stores, and reset.
 ghost use mathlib.Core.Path.{_≡_};
+ghost use Prim.Native.Nat.{_<_};
 ghost use Rattle.machine.specs.Registers as Table;
 ghost use Rattle.machine.specs.Record as Record;
 ghost use Rattle.machine.specs.Calls as Calls;
+ghost use Rattle.registers.specs.Places.{rowAt, addressAt, addressOf, Found};
 use machine::Device;
 use machine::Interrupts;
 use machine::Receiver;
@@ -10,7 +12,7 @@ use machine::Sender;
 use machine::Serial;
 use machine::Timer2;
 use machine::Timers;
-use machine::places::SM01;
+use machine::refusals::BAD_ADDRESS;
 
 // The addresses.
 const PCON: u8 = 0x87;
@@ -45,113 +47,166 @@ const TL2: u8 = 0xcc;
 
 const TH2: u8 = 0xcd;
 
-// The implemented bits by address, eight addresses a row from 80 up: on kind 51, then on kind 52. 0 where the kind lacks the address.
-const IMPLEMENTED: [[u8; 8]; 32] = [
-    [0, 0, 0, 0, 0, 0, 0, 0x8f],
-    [0xff, 0xff, 0xff, 0xff, 0xff, 0xff, 0, 0],
-    [0, 0, 0, 0, 0, 0, 0, 0],
-    [0xff, 0xff, 0, 0, 0, 0, 0, 0],
-    [0, 0, 0, 0, 0, 0, 0, 0],
-    [0x9f, 0, 0, 0, 0, 0, 0, 0],
-    [0, 0, 0, 0, 0, 0, 0, 0],
-    [0x1f, 0, 0, 0, 0, 0, 0, 0],
-    [0, 0, 0, 0, 0, 0, 0, 0],
-    [0, 0, 0, 0, 0, 0, 0, 0],
-    [0, 0, 0, 0, 0, 0, 0, 0],
-    [0, 0, 0, 0, 0, 0, 0, 0],
-    [0, 0, 0, 0, 0, 0, 0, 0],
-    [0, 0, 0, 0, 0, 0, 0, 0],
-    [0, 0, 0, 0, 0, 0, 0, 0],
-    [0, 0, 0, 0, 0, 0, 0, 0],
-    [0, 0, 0, 0, 0, 0, 0, 0x8f],
-    [0xff, 0xff, 0xff, 0xff, 0xff, 0xff, 0, 0],
-    [0, 0, 0, 0, 0, 0, 0, 0],
-    [0xff, 0xff, 0, 0, 0, 0, 0, 0],
-    [0, 0, 0, 0, 0, 0, 0, 0],
-    [0xbf, 0, 0, 0, 0, 0, 0, 0],
-    [0, 0, 0, 0, 0, 0, 0, 0],
-    [0x3f, 0, 0, 0, 0, 0, 0, 0],
-    [0, 0, 0, 0, 0, 0, 0, 0],
-    [0xff, 0, 0xff, 0xff, 0xff, 0xff, 0, 0],
-    [0, 0, 0, 0, 0, 0, 0, 0],
-    [0, 0, 0, 0, 0, 0, 0, 0],
-    [0, 0, 0, 0, 0, 0, 0, 0],
-    [0, 0, 0, 0, 0, 0, 0, 0],
-    [0, 0, 0, 0, 0, 0, 0, 0],
-    [0, 0, 0, 0, 0, 0, 0, 0],
+// The table: an address, and the implemented bits there on kind 51 and on kind 52; a kind without any lacks the address.
+const TABLE: [[u8; 3]; 16] = [
+    [PCON, 0x8f, 0x8f],
+    [TCON, 0xff, 0xff],
+    [TMOD, 0xff, 0xff],
+    [TL0, 0xff, 0xff],
+    [TL1, 0xff, 0xff],
+    [TH0, 0xff, 0xff],
+    [TH1, 0xff, 0xff],
+    [SCON, 0xff, 0xff],
+    [SBUF, 0xff, 0xff],
+    [IE, 0x9f, 0xbf],
+    [IP, 0x1f, 0x3f],
+    [T2CON, 0, 0xff],
+    [RCAP2L, 0, 0xff],
+    [RCAP2H, 0, 0xff],
+    [TL2, 0, 0xff],
+    [TH2, 0, 0xff],
 ];
 
-// The table at an address.
-fn mask(kind: u8, a: u8) -> u8
-    ensures { λ r. ⌜ r ≡ Table.implemented kind a ⌝ }
-{
-    let rows = IMPLEMENTED;
-    let on51 = rows[((a >> 3) & 15) as usize];
-    let on52 = rows[((a >> 3) | 16) as usize];
-    let at = (a & 7) as usize;
-    laws::picked(a < 0x80, 0, laws::picked(kind == 51, on51[at], on52[at]))
+// A register of the chip.
+pub enum Register {
+    Pcon,
+    Tcon,
+    Tmod,
+    Tl0,
+    Tl1,
+    Th0,
+    Th1,
+    Scon,
+    Sbuf,
+    Ie,
+    Ip,
+    T2con,
+    Rcap2l,
+    Rcap2h,
+    Tl2,
+    Th2,
 }
 
-// The implemented bits at an address that a caller gives. Each arm looks up a fixed address, so that no table is made when it runs.
-pub fn implemented(kind: u8, a: u8) -> u8
-    ensures { λ r. ⌜ r ≡ Table.implemented kind a ⌝ }
+// What stands at an address: a register with the implemented bits that the kind has there, or the refusal.
+pub enum Place {
+    At(Register, u8),
+    Refused(u8),
+}
+
+// A row of the table.
+fn row(n: usize) -> [u8; 3]
+    requires { ⌜ n < 16 ⌝ }
+    ensures { λ r. ⌜ r ≡ rowAt n ⌝ }
 {
-    match a {
-        PCON => mask(kind, PCON),
-        TCON => mask(kind, TCON),
-        TMOD => mask(kind, TMOD),
-        TL0 => mask(kind, TL0),
-        TL1 => mask(kind, TL1),
-        TH0 => mask(kind, TH0),
-        TH1 => mask(kind, TH1),
-        SCON => mask(kind, SCON),
-        SBUF => mask(kind, SBUF),
-        IE => mask(kind, IE),
-        IP => mask(kind, IP),
-        T2CON => mask(kind, T2CON),
-        RCAP2L => mask(kind, RCAP2L),
-        RCAP2H => mask(kind, RCAP2H),
-        TL2 => mask(kind, TL2),
-        TH2 => mask(kind, TH2),
-        0x00..=0x86 | 0x8e..=0x97 | 0x9a..=0xa7 | 0xa9..=0xb7 | 0xb9..=0xc7 | 0xc9 | 0xce..=0xff =>
-            0,
+    let rows = TABLE;
+    rows[n]
+}
+
+// The implemented bits on a kind by a row of the table.
+fn mask(kind: u8, n: usize) -> u8
+    requires { ⌜ n < 16 ⌝ }
+    ensures { λ r. ⌜ r ≡ Table.implemented kind (addressAt n) ⌝ }
+{
+    let at = row(n);
+    laws::picked(kind == 51, at[1], at[2])
+}
+
+// The implemented bits of a register. Each arm looks up a fixed row, so that no table is made when it runs.
+fn implemented(kind: u8, r: Register) -> u8
+    ensures { λ m. ⌜ m ≡ Table.implemented kind (addressOf r) ⌝ }
+{
+    match r {
+        Register::Pcon => mask(kind, 0),
+        Register::Tcon => mask(kind, 1),
+        Register::Tmod => mask(kind, 2),
+        Register::Tl0 => mask(kind, 3),
+        Register::Tl1 => mask(kind, 4),
+        Register::Th0 => mask(kind, 5),
+        Register::Th1 => mask(kind, 6),
+        Register::Scon => mask(kind, 7),
+        Register::Sbuf => mask(kind, 8),
+        Register::Ie => mask(kind, 9),
+        Register::Ip => mask(kind, 10),
+        Register::T2con => mask(kind, 11),
+        Register::Rcap2l => mask(kind, 12),
+        Register::Rcap2h => mask(kind, 13),
+        Register::Tl2 => mask(kind, 14),
+        Register::Th2 => mask(kind, 15),
     }
 }
 
-// A register within the implemented bits at its address.
-fn within(kind: u8, a: u8, x: u8) -> bool
-    ensures { λ r. ⌜ r ≡ Table.within (Table.implemented kind a) x ⌝ }
+// A register, unless the kind lacks it.
+fn present(kind: u8, r: Register) -> Place
+    ensures { λ p. ⌜ Found kind (addressOf r) p ⌝ }
 {
-    (x & mask(kind, a)) == x
+    let bits = implemented(kind, r);
+    if bits == 0 {
+        Place::Refused(BAD_ADDRESS)
+    } else {
+        Place::At(r, bits)
+    }
+}
+
+// What stands at an address that a caller gives.
+pub fn find(kind: u8, address: u8) -> Place
+    ensures { λ p. ⌜ Found kind address p ⌝ }
+{
+    match address {
+        PCON => present(kind, Register::Pcon),
+        TCON => present(kind, Register::Tcon),
+        TMOD => present(kind, Register::Tmod),
+        TL0 => present(kind, Register::Tl0),
+        TL1 => present(kind, Register::Tl1),
+        TH0 => present(kind, Register::Th0),
+        TH1 => present(kind, Register::Th1),
+        SCON => present(kind, Register::Scon),
+        SBUF => present(kind, Register::Sbuf),
+        IE => present(kind, Register::Ie),
+        IP => present(kind, Register::Ip),
+        T2CON => present(kind, Register::T2con),
+        RCAP2L => present(kind, Register::Rcap2l),
+        RCAP2H => present(kind, Register::Rcap2h),
+        TL2 => present(kind, Register::Tl2),
+        TH2 => present(kind, Register::Th2),
+        0x00..=0x86 | 0x8e..=0x97 | 0x9a..=0xa7 | 0xa9..=0xb7 | 0xb9..=0xc7 | 0xc9 | 0xce..=0xff =>
+            Place::Refused(BAD_ADDRESS),
+    }
+}
+
+// A register within its implemented bits.
+fn within(kind: u8, r: Register, x: u8) -> bool
+    ensures { λ b. ⌜ b ≡ Table.within (Table.implemented kind (addressOf r)) x ⌝ }
+{
+    (x & implemented(kind, r)) == x
 }
 
 // Each register within its implemented bits.
 fn registers_ok(d: Device) -> bool
     ensures { λ r. ⌜ r ≡ Record.registersOk (d .kind) (Record.registers d) ⌝ }
 {
-    within(d.kind, PCON, d.pcon)
-        & within(d.kind, TCON, d.timers.tcon)
-        & within(d.kind, TMOD, d.timers.tmod)
-        & within(d.kind, TL0, d.timers.tl0)
-        & within(d.kind, TL1, d.timers.tl1)
-        & within(d.kind, TH0, d.timers.th0)
-        & within(d.kind, TH1, d.timers.th1)
-        & within(d.kind, SCON, d.serial.scon)
-        & within(d.kind, SBUF, d.serial.received)
-        & within(d.kind, IE, d.interrupts.ie)
-        & within(d.kind, IP, d.interrupts.ip)
-        & within(d.kind, T2CON, d.timer2.t2con)
-        & within(d.kind, RCAP2L, d.timer2.rcap2l)
-        & within(d.kind, RCAP2H, d.timer2.rcap2h)
-        & within(d.kind, TL2, d.timer2.tl2)
-        & within(d.kind, TH2, d.timer2.th2)
+    within(d.kind, Register::Pcon, d.pcon)
+        & within(d.kind, Register::Tcon, d.timers.tcon)
+        & within(d.kind, Register::Tmod, d.timers.tmod)
+        & within(d.kind, Register::Tl0, d.timers.tl0)
+        & within(d.kind, Register::Tl1, d.timers.tl1)
+        & within(d.kind, Register::Th0, d.timers.th0)
+        & within(d.kind, Register::Th1, d.timers.th1)
+        & within(d.kind, Register::Scon, d.serial.scon)
+        & within(d.kind, Register::Sbuf, d.serial.received)
+        & within(d.kind, Register::Ie, d.interrupts.ie)
+        & within(d.kind, Register::Ip, d.interrupts.ip)
+        & within(d.kind, Register::T2con, d.timer2.t2con)
+        & within(d.kind, Register::Rcap2l, d.timer2.rcap2l)
+        & within(d.kind, Register::Rcap2h, d.timer2.rcap2h)
+        & within(d.kind, Register::Tl2, d.timer2.tl2)
+        & within(d.kind, Register::Th2, d.timer2.th2)
 }
 
 // Each hidden field within its range. Position 11 is allowed only in serial modes 2 and 3; on kind 51 the T2 due mark is 0.
 fn hidden_ok(d: Device) -> bool
     ensures { λ r. ⌜ r ≡ Record.hiddenOk (Record.hiddenFields d) ⌝ }
 {
-    let last = laws::picked(2 <= ((d.serial.scon >> SM01) & 3), 11, 10);
+    let last = laws::picked(2 <= serial::mode_of(d.serial.scon), 11, 10);
     let due_most = laws::picked(d.kind == 51, 0, 1);
     (d.serial.send.position <= last)
         & (d.serial.send.value <= 511)
@@ -186,107 +241,54 @@ pub fn accepts(d: Device) -> bool
     ((d.kind == 51) | (d.kind == 52)) & registers_ok(d) & hidden_ok(d) & levels_ok(l)
 }
 
-// The value at an address; 0 where no register is.
-pub fn register_at(d: Device, a: u8) -> u8
-    ensures { λ r. ⌜ r ≡ Calls.registerAt d a ⌝ }
+// The value of a register: of SBUF the received byte.
+pub fn value_of(d: Device, r: Register) -> u8
+    ensures { λ v. ⌜ v ≡ Calls.registerAt d (addressOf r) ⌝ }
 {
-    match a {
-        PCON => d.pcon,
-        TCON => d.timers.tcon,
-        TMOD => d.timers.tmod,
-        TL0 => d.timers.tl0,
-        TL1 => d.timers.tl1,
-        TH0 => d.timers.th0,
-        TH1 => d.timers.th1,
-        SCON => d.serial.scon,
-        SBUF => d.serial.received,
-        IE => d.interrupts.ie,
-        IP => d.interrupts.ip,
-        T2CON => d.timer2.t2con,
-        RCAP2L => d.timer2.rcap2l,
-        RCAP2H => d.timer2.rcap2h,
-        TL2 => d.timer2.tl2,
-        TH2 => d.timer2.th2,
-        0x00..=0x86 | 0x8e..=0x97 | 0x9a..=0xa7 | 0xa9..=0xb7 | 0xb9..=0xc7 | 0xc9 | 0xce..=0xff =>
-            0,
+    match r {
+        Register::Pcon => d.pcon,
+        Register::Tcon => d.timers.tcon,
+        Register::Tmod => d.timers.tmod,
+        Register::Tl0 => d.timers.tl0,
+        Register::Tl1 => d.timers.tl1,
+        Register::Th0 => d.timers.th0,
+        Register::Th1 => d.timers.th1,
+        Register::Scon => d.serial.scon,
+        Register::Sbuf => d.serial.received,
+        Register::Ie => d.interrupts.ie,
+        Register::Ip => d.interrupts.ip,
+        Register::T2con => d.timer2.t2con,
+        Register::Rcap2l => d.timer2.rcap2l,
+        Register::Rcap2h => d.timer2.rcap2h,
+        Register::Tl2 => d.timer2.tl2,
+        Register::Th2 => d.timer2.th2,
     }
 }
 
 // The device with a register stored: SCON and SBUF do what the serial section says.
-pub fn stored(d: Device, a: u8, v: u8) -> Device
-    ensures { λ r. ⌜ r ≡ Calls.stored d a v ⌝ }
+pub fn stored(d: Device, r: Register, v: u8) -> Device
+    ensures { λ e. ⌜ e ≡ Calls.stored d (addressOf r) v ⌝ }
 {
     let mut e = d;
-    match a {
-        PCON => {
-            e.pcon = v;
-            e
-        }
-        TCON => {
-            e.timers.tcon = v;
-            e
-        }
-        TMOD => {
-            e.timers.tmod = v;
-            e
-        }
-        TL0 => {
-            e.timers.tl0 = v;
-            e
-        }
-        TL1 => {
-            e.timers.tl1 = v;
-            e
-        }
-        TH0 => {
-            e.timers.th0 = v;
-            e
-        }
-        TH1 => {
-            e.timers.th1 = v;
-            e
-        }
-        SCON => {
-            let s = serial::write_scon(v, d.serial);
-            e.serial = s;
-            e
-        }
-        SBUF => {
-            let s = serial::write_sbuf(v, d.serial);
-            e.serial = s;
-            e
-        }
-        IE => {
-            e.interrupts.ie = v;
-            e
-        }
-        IP => {
-            e.interrupts.ip = v;
-            e
-        }
-        T2CON => {
-            e.timer2.t2con = v;
-            e
-        }
-        RCAP2L => {
-            e.timer2.rcap2l = v;
-            e
-        }
-        RCAP2H => {
-            e.timer2.rcap2h = v;
-            e
-        }
-        TL2 => {
-            e.timer2.tl2 = v;
-            e
-        }
-        TH2 => {
-            e.timer2.th2 = v;
-            e
-        }
-        0x00..=0x86 | 0x8e..=0x97 | 0x9a..=0xa7 | 0xa9..=0xb7 | 0xb9..=0xc7 | 0xc9 | 0xce..=0xff =>
-            e,
+    match r {
+        Register::Pcon => e.pcon = v,
+        Register::Tcon => e.timers.tcon = v,
+        Register::Tmod => e.timers.tmod = v,
+        Register::Tl0 => e.timers.tl0 = v,
+        Register::Tl1 => e.timers.tl1 = v,
+        Register::Th0 => e.timers.th0 = v,
+        Register::Th1 => e.timers.th1 = v,
+        Register::Scon => e.serial = serial::write_scon(v, d.serial),
+        Register::Sbuf => e.serial = serial::write_sbuf(v, d.serial),
+        Register::Ie => e.interrupts.ie = v,
+        Register::Ip => e.interrupts.ip = v,
+        Register::T2con => e.timer2.t2con = v,
+        Register::Rcap2l => e.timer2.rcap2l = v,
+        Register::Rcap2h => e.timer2.rcap2h = v,
+        Register::Tl2 => e.timer2.tl2 = v,
+        Register::Th2 => e.timer2.th2 = v,
     }
+    e
 }
 
 // All zero but for the kind, the last line sample and the saved levels.

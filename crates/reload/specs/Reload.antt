@@ -1,6 +1,6 @@
--- A settled device in which Timer 1 alone counts, in mode 2, and its overflow raises no flag: all that happens is its reload,
--- which may be a tick of a serial port at rest.
-use Prim.Native.Nat.{ℕ, zero, suc, _+_, _-_, _%_, _^_, _≤_, min}
+-- A settled device in which Timer 1 alone counts, in mode 2, and its overflow raises no flag: all that happens is its
+-- reload, which may be a tick of a serial port at rest.
+use Prim.Native.Nat.{ℕ, zero, suc, _+_, _%_, _^_, _≤_}
 use mathlib.Core.Path.{_≡_}
 use mathlib.Core.Bool.{Bool, cond, _&&_, _||_, not}
 use lib.Dec.{eqb}
@@ -11,9 +11,8 @@ use Rattle.machine.specs.Bits.{bit}
 use Rattle.machine.specs.Registers.{RXD, SMOD, TF1, TR2, RCLK, TCLK}
 use Rattle.machine.specs.Record.{serialMode}
 use Rattle.machine.specs.Timers.{timer0Mode, timer1Mode, counts0, counts1, countsHigh0}
-use Rattle.machine.specs.Serial.{halfAfter, counterNext, withSample}
-use Rattle.serial.specs.Rest.{startWaits}
-use Rattle.strides.specs.Stride.{settledAt}
+use Rattle.machine.specs.Serial.{halfAfter, ticks1, startFound, withSample}
+use Rattle.strides.specs.Stride.{settledAt, left, usedOf, withParts}
 use Rattle.reload.specs.declared.Clocking.{Clocking}
 use Rattle.reload.specs.declared.Idling.{Idling}
 use Rattle.reload.specs.declared.IdleRound.{IdleRound}
@@ -28,7 +27,7 @@ timer1Alone l t =
 
 -- no ticks but those of overflows, and none of them finds a start bit
 unfoldable pub lineRests : ℕ → Serial → Bool
-lineRests rxd s = not (eqb (serialMode (s .scon)) 2) && not (startWaits rxd s)
+lineRests rxd s = not (eqb (serialMode (s .scon)) 2) && not (startFound rxd s)
 
 -- Timer 1's reload is all that happens, Timer 2 not running
 unfoldable pub reloadOnly : ℕ → Device → Bool
@@ -55,7 +54,7 @@ clockingOf l d =
       receives = clocks (d .serial .scon) (bit RCLK (d .timer2 .t2con));
     }
 
-unfoldable pub idlingOf : Device → Idling
+abbrev pub idlingOf : Device → Idling
 idlingOf d =
     record {
       tl1 = d .timers .tl1;
@@ -65,58 +64,40 @@ idlingOf d =
       sample = d .serial .receive .sample;
     }
 
--- the overflow is a tick with SMOD = 1, or with half going from 1 to 0
-unfoldable pub ticks : ℕ → ℕ → Bool
-ticks smod half = eqb smod 1 || eqb half 1
+-- the ticks of a direction: those of Timer 1's overflow, where it clocks the direction
+abbrev pub ticksBy : Bool → Clocking → Idling → ℕ
+ticksBy clocked k x = cond clocked (ticks1 (k .smod) (x .half) 1) 0
 
 -- TL1 takes TH1; a tick adds 1 to the send counter and takes RXD into the last line sample
 unfoldable pub reloaded : Clocking → Idling → Idling
 reloaded k x =
-    let tick = ticks (k .smod) (x .half) in
     record {
       tl1 = x .th1;
       th1 = x .th1;
       half = halfAfter (k .smod) (x .half) 1;
-      counter = cond (k .sends && tick) (counterNext (x .counter)) (x .counter);
-      sample = cond (k .receives && tick) (k .rxd) (x .sample);
+      counter = (x .counter + ticksBy (k .sends) k x) % 16;
+      sample = cond (eqb (ticksBy (k .receives) k x) 0) (x .sample) (k .rxd);
+    }
+
+-- Timers 0 and 1 with another TL1 and TH1
+abbrev pub withPair1 : ℕ → ℕ → Timers → Timers
+withPair1 tl th t =
+    record { tcon = t .tcon; tmod = t .tmod; tl0 = t .tl0; tl1 = tl; th0 = t .th0; th1 = th; due0 = t .due0; due1 = t .due1 }
+
+-- the serial port with these
+abbrev pub withPort : Idling → Serial → Serial
+withPort x s =
+    record {
+      scon = s .scon;
+      send = record { position = s .send .position; value = s .send .value; counter = x .counter };
+      receive = withSample (x .sample) (s .receive);
+      half = x .half;
+      received = s .received;
     }
 
 -- the device with another cycle number and with these
 unfoldable pub putIdling : ℕ → Idling → Device → Device
-putIdling n x d =
-    let t = d .timers in
-    let s = d .serial in
-    record {
-      kind = d .kind;
-      pcon = d .pcon;
-      timers =
-          record {
-            tcon = t .tcon;
-            tmod = t .tmod;
-            tl0 = t .tl0;
-            tl1 = x .tl1;
-            th0 = t .th0;
-            th1 = x .th1;
-            due0 = t .due0;
-            due1 = t .due1;
-          };
-      timer2 = d .timer2;
-      serial =
-          record {
-            scon = s .scon;
-            send = record { position = s .send .position; value = s .send .value; counter = x .counter };
-            receive = withSample (x .sample) (s .receive);
-            half = x .half;
-            received = s .received;
-          };
-      interrupts = d .interrupts;
-      levels = d .levels;
-      cycle = n;
-    }
-
--- the device after the cycle
-unfoldable pub reloadAt : ℕ → Device → Device
-reloadAt l d = putIdling ((d .cycle + 1) % 2 ^ 64) (reloaded (clockingOf l d) (idlingOf d)) d
+putIdling n x d = withParts n (withPair1 (x .tl1) (x .th1) (d .timers)) (d .timer2) (withPort x (d .serial)) d
 
 -- Cycles in a row
 
@@ -138,7 +119,7 @@ idleAt n l d = putIdling ((d .cycle + n) % 2 ^ 64) (idleCycles n (clockingOf l d
 
 -- the cycles of a round: the reload, or the counts before it
 unfoldable pub usedIdling : ℕ → Idling → ℕ
-usedIdling left x = cond (eqb (x .tl1) 255) 1 (min (255 - x .tl1) left)
+usedIdling rest x = usedOf (left 8 (x .tl1)) rest
 
 -- a round has just these cycles, and ends where they end
 pub record Rounded (k : Clocking) (x : Idling) (left : ℕ) (r : IdleRound) : Type 0 where

@@ -1,19 +1,15 @@
-// Timer 1 alone counts in a settled device, in mode 2, and its overflow raises no flag: whether it is so, one reload, and n cycles by rounds.
-// `l` is the pin byte as the kind takes it.
+// Timer 1 alone counts in a settled device, in mode 2, and its overflow raises no flag: whether it is so, one reload, and
+// n cycles by rounds. `l` is the pin byte as the kind takes it.
 ghost use mathlib.Core.Path.{_≡_};
-ghost use Prim.Native.Nat.{_≤_, min};
+ghost use Prim.Native.Nat.{_≤_};
 ghost use Rattle.reload.specs.Reload as Reload;
 use laws::least;
 use laws::picked;
 use machine::Device;
 use machine::Serial;
 use machine::Timers;
-use machine::places::MODE0;
-use machine::places::MODE1;
 use machine::places::RCLK;
-use machine::places::REN;
 use machine::places::RXD;
-use machine::places::SM01;
 use machine::places::SMOD;
 use machine::places::TCLK;
 use machine::places::TF1;
@@ -23,8 +19,8 @@ use machine::places::TR2;
 fn timer1_alone(l: u8, t: Timers) -> bool
     ensures { λ r. ⌜ r ≡ Reload.timer1Alone l t ⌝ }
 {
-    let one = timers::counts1(t, l) & (((t.tmod >> MODE1) & 3) == 2);
-    let set = (((t.tcon >> TF1) & 1) == 1) | (((t.tmod >> MODE0) & 3) == 3);
+    let one = timers::counts1(t, l) & (timers::timer1_mode(t) == 2);
+    let set = (((t.tcon >> TF1) & 1) == 1) | (timers::timer0_mode(t) == 3);
     (one & set) & !(timers::counts0(t, l) | timers::counts_high0(t))
 }
 
@@ -32,31 +28,24 @@ fn timer1_alone(l: u8, t: Timers) -> bool
 fn line_rests(rxd: u8, s: Serial) -> bool
     ensures { λ r. ⌜ r ≡ Reload.lineRests rxd s ⌝ }
 {
-    let waits = (((s.scon >> REN) & 1) == 1) & ((s.receive.sample == 1) & (rxd == 0));
-    !(((s.scon >> SM01) & 3) == 2) & !waits
+    !(serial::mode_of(s.scon) == 2) & !serial::start_found(rxd, s)
 }
 
-// Timer 1's reload is all that happens, Timer 2 not running.
-fn reload_only(d: Device, l: u8) -> bool
-    ensures { λ r. ⌜ r ≡ Reload.reloadOnly l d ⌝ }
-{
-    let t = d.timers;
-    let s = d.serial;
-    let stops = ((d.timer2.t2con >> TR2) & 1) == 0;
-    (timer1_alone(l, t) & stops) & line_rests((l >> RXD) & 1, s)
-}
-
-// The device is settled, and Timer 1's reload is all that happens.
-// With TL1 at 0 such a device has room, and one that is not settled has none.
+// The device is settled, and Timer 1's reload is all that happens, Timer 2 not running. Timer 1 is asked first,
+// and the serial port before the whole device, which is dearer to hand on.
 pub fn idles(d: Device, l: u8) -> bool
     ensures { λ r. ⌜ r ≡ Reload.idlesAt l d ⌝ }
 {
-    if !reload_only(d, l) {
+    let t = d.timers;
+    if !timer1_alone(l, t) {
         return false;
     }
-    let mut e = d;
-    e.timers.tl1 = 0;
-    !(quiet::room(e, l) == 0)
+    let s = d.serial;
+    if !quiet::settled_serial((l >> RXD) & 1, s) {
+        return false;
+    }
+    let stops = ((d.timer2.t2con >> TR2) & 1) == 0;
+    (stops & line_rests((l >> RXD) & 1, s)) & quiet::settled(d, l)
 }
 
 // What a reload goes by: SMOD, RXD, and whether Timer 1 clocks the sender and the receiver.
@@ -80,7 +69,7 @@ pub struct Idling {
 fn clocks(scon: u8, clock: u8) -> bool
     ensures { λ r. ⌜ r ≡ Reload.clocks scon clock ⌝ }
 {
-    !(((scon >> SM01) & 3) == 0) & !(clock == 1)
+    !(serial::mode_of(scon) == 0) & !(clock == 1)
 }
 
 fn clocking_of(d: Device, l: u8) -> Clocking
@@ -114,12 +103,10 @@ fn idling_of(d: Device) -> Idling
 fn reloaded(k: Clocking, x: Idling) -> Idling
     ensures { λ r. ⌜ r ≡ Reload.reloaded k x ⌝ }
 {
-    let tick = (k.smod == 1) | (x.half == 1);
-    let flipped = std::num::wrapping_add_u8(x.half, 1) & 1;
-    let next = std::num::wrapping_add_u8(x.counter, 1) & 15;
-    let half = picked(k.smod == 1, x.half, flipped);
-    let counter = picked(k.sends & tick, next, x.counter);
-    let sample = picked(k.receives & tick, k.rxd, x.sample);
+    let tick = serial::ticks1(k.smod, x.half, 1);
+    let half = serial::half_after(k.smod, x.half, 1);
+    let counter = std::num::wrapping_add_u8(x.counter, picked(k.sends, tick, 0)) & 15;
+    let sample = picked(picked(k.receives, tick, 0) == 0, x.sample, k.rxd);
     Idling {
         tl1: x.th1,
         th1: x.th1,

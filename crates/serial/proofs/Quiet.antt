@@ -1,7 +1,7 @@
--- A resting serial port: in mode 0, and without ticks, only half changes; ticks with no start bit waiting move the send counter and
--- sample the line. By induction on the ticks.
+-- A resting serial port: in mode 0, and without ticks, only half changes; ticks with no start bit waiting move the
+-- send counter and sample the line. By induction on the ticks.
 use mathlib.Core.Path.{_≡_, refl, ap, sym, _∙_}
-use mathlib.Core.Bool.{Bool, true, false, cond, _&&_, _||_, not}
+use mathlib.Core.Bool.{Bool, true, false, cond, _&&_, _||_, not, and-false}
 use Prim.Native.Nat.{ℕ, zero, suc, _+_, _%_, _≤_}
 use native.Mathlib.Omega.{arith}
 use lib.Dec.{eqb, eqb·suc-zero}
@@ -13,7 +13,7 @@ use Rattle.machine.specs.Record.{serialMode}
 use Rattle.machine.specs.Registers.{REN}
 use Rattle.machine.specs.Serial as S
 use Rattle.machine.specs.Serial.{withReceive, withHalf, withSample, rollsOver, counterNext}
-use Rattle.serial.specs.Rest.{startWaits, idles}
+use Rattle.serial.specs.Rest.{idles}
 use Rattle.laws.proofs.Choices.{cond-same, and-left, and-right, by-test}
 use Rattle.serial.proofs.Sending.{sendCounter}
 
@@ -46,23 +46,17 @@ rest-send-ticks (suc n) s p h =
 
 -- Receiving
 
-and-none : (a b : Bool) → a && (b && false) ≡ false
-and-none true true = refl
-and-none true false = refl
-and-none false true = refl
-and-none false false = refl
-
 -- once the line is sampled no start bit waits
-none-sampled : (rxd : ℕ) (s : Serial) → startWaits rxd (sampled rxd s) ≡ false
-none-sampled zero s = and-none (eqb (bit REN (s .scon)) 1) true
-none-sampled (suc n) s =
-    ap (λ (z : Bool). eqb (bit REN (s .scon)) 1 && (eqb (suc n) 1 && z)) (eqb·suc-zero n) ∙ and-none (eqb (bit REN (s .scon)) 1) (eqb (suc n) 1)
+none-sampled : (rxd : ℕ) (s : Serial) → S.startFound rxd (sampled rxd s) ≡ false
+unfolding S.startFound
+none-sampled zero s = and-false (eqb (bit REN (s .scon)) 1)
+none-sampled (suc n) s = simp (eqb·suc-zero, and-false)
 
-rest-tick : (rxd : ℕ) (s : Serial) → s .receive .position ≡ 0 → startWaits rxd s ≡ false → S.receiveTick rxd s ≡ sampled rxd s
+rest-tick : (rxd : ℕ) (s : Serial) → s .receive .position ≡ 0 → S.startFound rxd s ≡ false → S.receiveTick rxd s ≡ sampled rxd s
 unfolding S.receiveTick S.receiveStart
 rest-tick rxd s p w = simp (eq-eqb (s .receive .position) 0 p, w)
 
-pub rest-receive-ticks : (n rxd : ℕ) (s : Serial) → s .receive .position ≡ 0 → startWaits rxd s ≡ false
+pub rest-receive-ticks : (n rxd : ℕ) (s : Serial) → s .receive .position ≡ 0 → S.startFound rxd s ≡ false
     → S.receiveTicks n rxd s ≡ sampled (cond (eqb n 0) (s .receive .sample) rxd) s
 unfolding S.receiveTicks
 rest-receive-ticks zero rxd s p w = refl
@@ -86,9 +80,9 @@ rest-no-ticks k rxd s m p q = simp (ne-eqb (serialMode (s .scon)) 0 m, p, q)
 
 -- in modes 1 to 3 with ticks and no start bit waiting
 pub rest-ticks : (k : Ticks) (rxd : ℕ) (s : Serial) → (serialMode (s .scon) ≡ 0 → ⊥) → s .send .position ≡ 0 → s .receive .position ≡ 0
-    → s .send .counter ≤ 15 → startWaits rxd s ≡ false
+    → s .send .counter ≤ 15 → S.startFound rxd s ≡ false
     → S.serialStep k rxd s ≡ sampled (cond (eqb (k .receive) 0) (s .receive .sample) rxd) (sendCounter ((s .send .counter + k .send) % 16) (withHalf (k .half) s))
-unfolding S.serialStep S.send S.receive
+unfolding S.serialStep S.send S.receive S.startFound
 rest-ticks k rxd s m p q h w =
     let t = withHalf (k .half) s in
     let u = sendCounter ((s .send .counter + k .send) % 16) t in

@@ -1,35 +1,34 @@
--- The serial port stays within its ranges and in its mode, part by part, in a cycle and in a write; and at most 6 ticks come.
+-- The serial port stays within its ranges and in its mode, part by part, in a cycle and in a write; and at most 6
+-- ticks come.
 use mathlib.Core.Path.{_≡_, refl, sym, subst, _∙_}
-use mathlib.Core.Bool.{Bool, true, false, cond, _&&_, _||_, not}
+use mathlib.Core.Bool.{false, cond, _&&_, _||_, and-true}
 use Prim.Native.Nat.{ℕ, zero, suc, _+_, _-_, _%_, _≤_, _<_, zero-le}
-use native.Mathlib.Nat.{mod-lt, zero-lt-suc}
 use native.Mathlib.Omega.{arith}
-use lib.Dec.{eqb, leb, leb→le}
-use borrow.Author.Tests.{eqb-true, eqb-false, leb-true, leb-false, le-leb, ne-eqb}
+use lib.Dec.{eqb, leb}
+use borrow.Author.Tests.{eqb-true, eqb-false, leb-true, leb-false, eq-eqb, ne-eqb}
 use Rattle.machine.specs.declared.Sender.{Sender}
 use Rattle.machine.specs.declared.Receiver.{Receiver}
 use Rattle.machine.specs.declared.Serial.{Serial}
 use Rattle.machine.specs.declared.Ticks.{Ticks}
 use Rattle.machine.specs.Bits.{bit, setBit, putBit}
 use Rattle.machine.specs.Record.{serialMode, lastPosition}
-use Rattle.machine.specs.Registers.{SMOD, SM2, REN, TB8, RB8, TI, RI, RCLK, TCLK, SM01}
+use Rattle.machine.specs.Registers.{SMOD, TB8, RB8, TI, RI, RCLK, TCLK, SM01}
 use Rattle.machine.specs.Serial as S
 use Rattle.machine.specs.Serial.{withSend, withReceive, withReceived, withHalf, sendAt, receiveAt, withVotes, withValue, withSample, sendCounted, counterNext, rollsOver}
-use Rattle.laws.proofs.Tests.{all, at}
 use Rattle.laws.proofs.Bits.{bit-below, field-set-above, field-put-above, set-lt, put-lt}
-use Rattle.serial.specs.Ranges.{SenderOk, ReceiverOk, SerialOk, TicksOk}
-use Rattle.laws.proofs.Choices.{cond-has}
-use Rattle.serial.proofs.Receiving.{bit-of-below, done-receive}
+use Rattle.laws.specs.Ranges.{SenderOk, ReceiverOk, SerialOk, TicksOk}
+use Rattle.laws.proofs.Choices.{chosen, cond-has, by-test, or-left, or-right}
+use Rattle.serial.proofs.Receiving.{takes, asked, bit-of-below, done-receive}
 
 -- the last position of mode m
 abbrev last : ℕ → ℕ
 last m = cond (leb 2 m) 11 10
 
 last-least : (m : ℕ) → 10 ≤ last m
-last-least m = cond-has (λ (l : ℕ). 10 ≤ l) (leb 2 m) 11 10 (λ e. omega arith) (λ e. omega arith)
+last-least m = chosen (λ (l : ℕ). 10 ≤ l) (leb 2 m) 11 10 (omega arith) (omega arith)
 
 pub last-most : (m : ℕ) → last m ≤ 11
-last-most m = cond-has (λ (l : ℕ). l ≤ 11) (leb 2 m) 11 10 (λ e. omega arith) (λ e. omega arith)
+last-most m = chosen (λ (l : ℕ). l ≤ 11) (leb 2 m) 11 10 (omega arith) (omega arith)
 
 -- no position is past the ninth bit's
 pub sends-below : (s : Serial) → SerialOk s → s .send .position ≤ 11
@@ -68,9 +67,6 @@ with-send m scon u s k h e o = record { scon = h; mode = e; send = o; receive = 
 with-received : (m scon b : ℕ) (s : Serial) → Kept m s → scon < 256 → serialMode scon ≡ m → b < 256 → Kept m (withReceived scon b s)
 with-received m scon b s k h e l = record { scon = h; mode = e; send = k .send; receive = k .receive; half = k .half; received = l }
 
-pub with-half : (m h : ℕ) (s : Serial) → Kept m s → h ≤ 1 → Kept m (withHalf h s)
-with-half m h s k l = record { scon = k .scon; mode = k .mode; send = k .send; receive = k .receive; half = l; received = k .received }
-
 send-at : (l p : ℕ) (u : Sender) → SenderOk l u → p ≤ l → SenderOk l (sendAt p u)
 send-at l p u o h = record { position = h; value = o .value; counter = o .counter }
 
@@ -101,8 +97,8 @@ unfolding S.sendMove
 move-kept m s k =
     let p = s .send .position in
     let u = s .send in
-    cond-has (Kept m) (eqb p 0) s _ (λ e. k)
-    (λ e. cond-has (Kept m) (eqb p (lastPosition (s .scon))) (withSend (setBit TI (s .scon)) (sendAt 0 u) s) (withSend (s .scon) (sendAt (p + 1) u) s)
+    chosen (Kept m) (eqb p 0) s _ k
+    (cond-has (Kept m) (eqb p (lastPosition (s .scon))) (withSend (setBit TI (s .scon)) (sendAt 0 u) s) (withSend (s .scon) (sendAt (p + 1) u) s)
     (λ d. with-send m (setBit TI (s .scon)) (sendAt 0 u) s k (set-lt 8 TI (s .scon) (omega arith) (k .scon)) (field-set-above SM01 2 TI (s .scon) (omega arith) ∙ k .mode)
     (send-at (last m) 0 u (k .send) zero-le))
     (λ d.
@@ -115,9 +111,9 @@ tick-kept m s k =
     let t = withSend (s .scon) (sendCounted (s .send)) s in
     let o : Kept m t = with-send m (s .scon) (sendCounted (s .send)) s k (k .scon) (k .mode)
     (record { position = k .send .position; value = k .send .value; counter = counted (s .send .counter) }) in
-    cond-has (Kept m) (rollsOver (s .send .counter)) (S.sendMove t) t (λ e. move-kept m t o) (λ e. o)
+    chosen (Kept m) (rollsOver (s .send .counter)) (S.sendMove t) t (move-kept m t o) o
 
-ticks-kept : (m n : ℕ) (s : Serial) → Kept m s → Kept m (S.sendTicks n s)
+pub ticks-kept : (m n : ℕ) (s : Serial) → Kept m s → Kept m (S.sendTicks n s)
 unfolding S.sendTicks
 ticks-kept m zero s k = k
 ticks-kept m (suc n) s k = ticks-kept m n (S.sendTick s) (tick-kept m s k)
@@ -125,7 +121,7 @@ ticks-kept m (suc n) s k = ticks-kept m n (S.sendTick s) (tick-kept m s k)
 pub send-kept : (m n : ℕ) (s : Serial) → Kept m s → Kept m (S.send n s)
 unfolding S.send
 send-kept m n s k =
-    cond-has (Kept m) (eqb (serialMode (s .scon)) 0) (S.sendMove s) (S.sendTicks n s) (λ e. move-kept m s k) (λ e. ticks-kept m n s k)
+    chosen (Kept m) (eqb (serialMode (s .scon)) 0) (S.sendMove s) (S.sendTicks n s) (move-kept m s k) (ticks-kept m n s k)
 
 -- Receiving
 
@@ -134,36 +130,35 @@ unfolding S.receiveStart
 start-kept m rxd s k =
     let r = s .receive in
     let started : Receiver = record { position = 1; value = 0; counter = 0; votes = r .votes; sample = r .sample } in
-    cond-has (Kept m) (eqb (bit REN (s .scon)) 1 && (eqb (r .sample) 1 && eqb rxd 0)) (withReceive started s) s
-    (λ e. with-receive m started s k
+    chosen (Kept m) (S.startFound rxd s) (withReceive started s) s
+    (with-receive m started s k
     (record { position = omega (arith, last-least m); value = zero-le; counter = zero-le; votes = k .receive .votes; sample = k .receive .sample }))
-    (λ e. k)
+    k
 
--- a rollover in modes 1 to 3, at every position: 48 cases
-rolled : ℕ → ℕ → ℕ
-rolled m p = cond ((eqb p 10 && eqb m 1) || eqb p 11) 0 (p + 1)
-
-rolls : ℕ → ℕ → Bool
-rolls m p = cond (not (eqb m 0) && leb p (last m)) (leb (rolled m p) (last m)) true
-
-rolls-all : ℕ → Bool
-rolls-all m = all (rolls m) 12
-
+-- a rollover in modes 1 to 3 passes no last position
 rolled-within : (scon p : ℕ) → (serialMode scon ≡ 0 → ⊥) → p ≤ lastPosition scon → S.receiveRolled scon p ≤ lastPosition scon
-unfolding S.receiveRolled rolled rolls rolls-all
+unfolding S.receiveRolled
 rolled-within scon p z h =
     let m = serialMode scon in
-    let t = at (rolls m) 12 (at rolls-all 4 tt m (mod-lt _ (zero-lt-suc 3))) p (omega (arith, last-most m)) in
-    leb→le (rolled m p) (last m) (simp (ne-eqb m 0 z, le-leb p (last m) h) at t)
+    let rests = eqb p 10 && eqb m 1 in
+    cond-has (λ (q : ℕ). q ≤ last m) (rests || eqb p 11) 0 (p + 1) (λ e. zero-le)
+    (λ e. by-test (leb 2 m)
+    (λ d.
+    let l : p ≤ 11 = simp d at h in
+    simp d (omega (arith, eqb-false p 11 (or-right rests (eqb p 11) e))))
+    (λ d.
+    let l : p ≤ 10 = simp d at h in
+    let one = eq-eqb m 1 (omega (arith, leb-false 2 m d)) in
+    simp d (omega (arith, eqb-false p 10 (simp (one, and-true) at (or-left rests (eqb p 11) e))))))
 
 counted-kept : (m scon : ℕ) (r : Receiver) → serialMode scon ≡ m → (m ≡ 0 → ⊥) → ReceiverOk (last m) r → ReceiverOk (last m) (S.receiveCounted scon r)
 unfolding S.receiveCounted
 counted-kept m scon r e z o =
     record {
-      position = cond-has (λ (p : ℕ). p ≤ last m) (rollsOver (r .counter)) (S.receiveRolled scon (r .position)) (r .position)
-          (λ d. subst (λ (n : ℕ). S.receiveRolled scon (r .position) ≤ last n) e
+      position = chosen (λ (p : ℕ). p ≤ last m) (rollsOver (r .counter)) (S.receiveRolled scon (r .position)) (r .position)
+          (subst (λ (n : ℕ). S.receiveRolled scon (r .position) ≤ last n) e
           (rolled-within scon (r .position) (λ q. z (sym e ∙ q)) (subst (λ (n : ℕ). r .position ≤ last n) (sym e) (o .position))))
-          (λ d. o .position);
+          (o .position);
       value = o .value;
       counter = counted (r .counter);
       votes = o .votes;
@@ -179,12 +174,12 @@ done-kept : (m b : ℕ) (s : Serial) → b ≤ 1 → Kept m s → Kept m (S.fram
 unfolding S.frameDone
 done-kept m b s l k =
     let put = putBit RB8 b (s .scon) in
-    cond-has (Kept m) (eqb (bit RI (s .scon)) 0 && (eqb (bit SM2 (s .scon)) 0 || eqb b 1)) (withReceived (setBit RI put) (s .receive .value % 256) s) s
-    (λ e. with-received m (setBit RI put) (s .receive .value % 256) s k
+    chosen (Kept m) (takes b s) (withReceived (setBit RI put) (s .receive .value % 256) s) s
+    (with-received m (setBit RI put) (s .receive .value % 256) s k
     (set-lt 8 RI put (omega arith) (put-lt 8 RB8 b (s .scon) (omega arith) (omega arith) (k .scon)))
     (field-set-above SM01 2 RI put (omega arith) ∙ field-put-above SM01 2 RB8 b (s .scon) (omega arith) (omega arith) ∙ k .mode)
     (omega arith))
-    (λ e. k)
+    k
 
 -- the receive position at rest
 rests-kept : (m : ℕ) (s : Serial) → Kept m s → Kept m (withReceive (receiveAt 0 (s .receive)) s)
@@ -198,15 +193,15 @@ bit-kept m b s l k =
     let done = S.frameDone b s in
     let o = done-kept m b s l k in
     let v = putBit (p - 2) b (r .value) in
-    cond-has (Kept m) (eqb p 1) _ _
-    (λ e. cond-has (Kept m) (eqb b 1) (withReceive (receiveAt 0 r) s) s (λ d. rests-kept m s k) (λ d. k))
-    (λ e. cond-has (Kept m) (leb p 9) (withReceive (withValue v r) s) _
+    chosen (Kept m) (eqb p 1) _ _
+    (chosen (Kept m) (eqb b 1) (withReceive (receiveAt 0 r) s) s (rests-kept m s k) k)
+    (cond-has (Kept m) (leb p 9) (withReceive (withValue v r) s) _
     (λ d. with-receive m (withValue v r) s k (with-value (last m) v r (k .receive)
     (value-put (p - 2) b (r .value) (omega (arith, leb-true p 9 d)) l (k .receive .value))))
-    (λ d. cond-has (Kept m) (eqb p 10) _ (withReceive (receiveAt 0 r) s)
-    (λ f. cond-has (Kept m) (eqb (serialMode (s .scon)) 1) (withReceive (receiveAt 0 r) done) done
-    (λ g. subst (λ (q : Receiver). Kept m (withReceive (receiveAt 0 q) done)) (done-receive b s) (rests-kept m done o)) (λ g. o))
-    (λ f. rests-kept m s k)))
+    (λ d. chosen (Kept m) (eqb p 10) _ (withReceive (receiveAt 0 r) s)
+    (chosen (Kept m) (eqb (serialMode (s .scon)) 1) (withReceive (receiveAt 0 r) done) done
+    (subst (λ (q : Receiver). Kept m (withReceive (receiveAt 0 q) done)) (done-receive b s) (rests-kept m done o)) o)
+    (rests-kept m s k)))
 
 work-kept : (m rxd : ℕ) (s : Serial) → (m ≡ 0 → ⊥) → rxd ≤ 1 → Kept m s → Kept m (S.receiveWork rxd s)
 unfolding S.receiveWork
@@ -217,19 +212,19 @@ work-kept m rxd s z l k =
     let n = r .counter in
     let kt = with-receive m r s k o in
     let added = S.votesAdded (r .votes) rxd in
-    cond-has (Kept m) (eqb n 7) (withReceive (withVotes rxd r) s) _
-    (λ e. with-receive m (withVotes rxd r) s k (with-votes (last m) rxd r o (omega arith)))
-    (λ e. cond-has (Kept m) (eqb n 8) (withReceive (withVotes added r) s) _
-    (λ d. with-receive m (withVotes added r) s k (with-votes (last m) added r o (votes-within (r .votes) rxd)))
-    (λ d. cond-has (Kept m) (eqb n 9) (S.receiveBit (S.bitOf (r .votes) rxd) t) t
-    (λ f. bit-kept m (S.bitOf (r .votes) rxd) t (bit-of-below (r .votes) rxd) kt) (λ f. kt)))
+    chosen (Kept m) (eqb n 7) (withReceive (withVotes rxd r) s) _
+    (with-receive m (withVotes rxd r) s k (with-votes (last m) rxd r o (omega arith)))
+    (chosen (Kept m) (eqb n 8) (withReceive (withVotes added r) s) _
+    (with-receive m (withVotes added r) s k (with-votes (last m) added r o (votes-within (r .votes) rxd)))
+    (chosen (Kept m) (eqb n 9) (S.receiveBit (S.bitOf (r .votes) rxd) t) t
+    (bit-kept m (S.bitOf (r .votes) rxd) t (bit-of-below (r .votes) rxd) kt) kt))
 
 pub receive-tick-kept : (m rxd : ℕ) (s : Serial) → (m ≡ 0 → ⊥) → rxd ≤ 1 → Kept m s → Kept m (S.receiveTick rxd s)
 unfolding S.receiveTick
 receive-tick-kept m rxd s z l k =
     let t = cond (eqb (s .receive .position) 0) (S.receiveStart rxd s) (S.receiveWork rxd s) in
-    let o = cond-has (Kept m) (eqb (s .receive .position) 0) (S.receiveStart rxd s) (S.receiveWork rxd s)
-    (λ e. start-kept m rxd s k) (λ e. work-kept m rxd s z l k) in
+    let o = chosen (Kept m) (eqb (s .receive .position) 0) (S.receiveStart rxd s) (S.receiveWork rxd s)
+    (start-kept m rxd s k) (work-kept m rxd s z l k) in
     with-receive m (withSample rxd (t .receive)) t o (with-sample (last m) rxd (t .receive) (o .receive) l)
 
 receive-ticks-kept : (m n rxd : ℕ) (s : Serial) → (m ≡ 0 → ⊥) → rxd ≤ 1 → Kept m s → Kept m (S.receiveTicks n rxd s)
@@ -244,10 +239,10 @@ shift-kept m rxd s l k =
     let p = r .position in
     let v = putBit (p - 2) rxd (r .value) in
     let taken = withReceived (setBit RI (s .scon)) (r .value % 256) s in
-    cond-has (Kept m) (eqb p 0) s _ (λ e. k)
-    (λ e. cond-has (Kept m) (eqb p 1) (withReceive (receiveAt 2 r) s) _
-    (λ d. with-receive m (receiveAt 2 r) s k (receive-at (last m) 2 r (k .receive) (omega (arith, last-least m))))
-    (λ d. cond-has (Kept m) (leb p 9) (withReceive (receiveAt (p + 1) (withValue v r)) s) (withReceive (receiveAt 0 r) taken)
+    chosen (Kept m) (eqb p 0) s _ k
+    (chosen (Kept m) (eqb p 1) (withReceive (receiveAt 2 r) s) _
+    (with-receive m (receiveAt 2 r) s k (receive-at (last m) 2 r (k .receive) (omega (arith, last-least m))))
+    (cond-has (Kept m) (leb p 9) (withReceive (receiveAt (p + 1) (withValue v r)) s) (withReceive (receiveAt 0 r) taken)
     (λ f.
     let h = leb-true p 9 f in
     with-receive m (receiveAt (p + 1) (withValue v r)) s k
@@ -263,14 +258,36 @@ receive-kept m n rxd s l k =
     cond-has (Kept m) (eqb (serialMode (s .scon)) 0) (S.receiveShift rxd s) (S.receiveTicks n rxd s) (λ e. shift-kept m rxd s l k)
     (λ e. receive-ticks-kept m n rxd s (λ q. eqb-false (serialMode (s .scon)) 0 e (k .mode ∙ q)) l k)
 
--- Step 5 keeps the ranges, and the mode
+-- Step 5. Sending keeps the mode, so that one test of it tells how to send and how to receive
+
+pub half-kept : (h : ℕ) (s : Serial) → h ≤ 1 → SerialOk s → Kept (serialMode (s .scon)) (withHalf h s)
+half-kept h s l o = record { scon = o .scon; mode = refl; send = o .send; receive = o .receive; half = l; received = o .received }
+
+module _ (k : Ticks) (rxd : ℕ) (s : Serial) (h : k .half ≤ 1) (o : SerialOk s) where
+  pub step-shift : serialMode (s .scon) ≡ 0 → S.serialStep k rxd s ≡ S.receiveShift rxd (S.sendMove (withHalf (k .half) s))
+  unfolding S.serialStep S.send S.receive
+  step-shift z =
+      let m = serialMode (s .scon) in
+      let t = withHalf (k .half) s in
+      simp (eq-eqb m 0 z, eq-eqb (serialMode (S.sendMove t .scon)) 0 (move-kept m t (half-kept (k .half) s h o) .mode ∙ z))
+
+  pub step-ticks : (serialMode (s .scon) ≡ 0 → ⊥)
+      → S.serialStep k rxd s ≡ S.receiveTicks (k .receive) rxd (S.sendTicks (k .send) (withHalf (k .half) s))
+  unfolding S.serialStep S.send S.receive
+  step-ticks z =
+      let m = serialMode (s .scon) in
+      let t = withHalf (k .half) s in
+      let u = S.sendTicks (k .send) t in
+      simp (ne-eqb m 0 z, ne-eqb (serialMode (u .scon)) 0 (λ e. z (sym (ticks-kept m (k .send) t (half-kept (k .half) s h o) .mode) ∙ e)))
+
+-- it keeps the ranges, and the mode
 
 step-kept : (k : Ticks) (rxd : ℕ) (s : Serial) → k .half ≤ 1 → rxd ≤ 1 → SerialOk s → Kept (serialMode (s .scon)) (S.serialStep k rxd s)
 unfolding S.serialStep
 step-kept k rxd s h l o =
     let m = serialMode (s .scon) in
     let t = withHalf (k .half) s in
-    receive-kept m (k .receive) rxd (S.send (k .send) t) l (send-kept m (k .send) t (with-half m (k .half) s (kept s o) h))
+    receive-kept m (k .receive) rxd (S.send (k .send) t) l (send-kept m (k .send) t (half-kept (k .half) s h o))
 
 pub step-ok : (k : Ticks) (rxd : ℕ) (s : Serial) → k .half ≤ 1 → rxd ≤ 1 → SerialOk s → SerialOk (S.serialStep k rxd s)
 step-ok k rxd s h l o = ok (serialMode (s .scon)) (S.serialStep k rxd s) (step-kept k rxd s h l o)
@@ -280,19 +297,19 @@ step-ok k rxd s h l o = ok (serialMode (s .scon)) (S.serialStep k rxd s) (step-k
 ticks1-within : (smod half overflow1 : ℕ) → overflow1 ≤ 1 → S.ticks1 smod half overflow1 ≤ 1
 unfolding S.ticks1
 ticks1-within smod half o h =
-    cond-has (λ (n : ℕ). n ≤ 1) (eqb smod 1) o _ (λ e. h) (λ e. cond-has (λ (n : ℕ). n ≤ 1) (eqb half 1) o 0 (λ d. h) (λ d. zero-le))
+    chosen (λ (n : ℕ). n ≤ 1) (eqb smod 1) o _ h (chosen (λ (n : ℕ). n ≤ 1) (eqb half 1) o 0 h zero-le)
 
 ticks-of-within : (mode smod clock one two : ℕ) → one ≤ 1 → two ≤ 6 → S.ticksOf mode smod clock one two ≤ 6
 unfolding S.ticksOf
 ticks-of-within mode smod clock one two h l =
-    cond-has (λ (n : ℕ). n ≤ 6) (eqb mode 0) 0 _ (λ e. zero-le)
-    (λ e. cond-has (λ (n : ℕ). n ≤ 6) (eqb mode 2) _ _
-    (λ d. cond-has (λ (n : ℕ). n ≤ 6) (eqb smod 1) 6 3 (λ f. omega arith) (λ f. omega arith))
-    (λ d. cond-has (λ (n : ℕ). n ≤ 6) (eqb clock 1) two one (λ f. l) (λ f. omega arith)))
+    chosen (λ (n : ℕ). n ≤ 6) (eqb mode 0) 0 _ zero-le
+    (chosen (λ (n : ℕ). n ≤ 6) (eqb mode 2) _ _
+    (chosen (λ (n : ℕ). n ≤ 6) (eqb smod 1) 6 3 (omega arith) (omega arith))
+    (chosen (λ (n : ℕ). n ≤ 6) (eqb clock 1) two one l (omega arith)))
 
 half-within : (smod half overflow1 : ℕ) → half ≤ 1 → S.halfAfter smod half overflow1 ≤ 1
 unfolding S.halfAfter
-half-within smod half o h = cond-has (λ (n : ℕ). n ≤ 1) (eqb smod 1) half ((half + o) % 2) (λ e. h) (λ e. omega arith)
+half-within smod half o h = chosen (λ (n : ℕ). n ≤ 1) (eqb smod 1) half ((half + o) % 2) h (omega arith)
 
 pub ticks-ok : (pcon t2con : ℕ) (s : Serial) (overflow1 overflows2 : ℕ) → s .half ≤ 1 → overflow1 ≤ 1 → overflows2 ≤ 6
     → TicksOk (S.serialTicks pcon t2con s overflow1 overflows2)
@@ -327,16 +344,15 @@ asked-ok : (s : Serial) → SerialOk s → SerialOk (S.receiveAsked s)
 unfolding S.receiveAsked
 asked-ok s o =
     let m = serialMode (s .scon) in
-    let asked = (eqb m 0 && eqb (bit REN (s .scon)) 1) && (eqb (bit RI (s .scon)) 0 && eqb (s .receive .position) 0) in
-    cond-has SerialOk asked (withReceive (receiveAt 1 (s .receive)) s) s
-    (λ e. record {
+    chosen SerialOk (asked (s .scon) (s .receive .position)) (withReceive (receiveAt 1 (s .receive)) s) s
+    (record {
       scon = o .scon;
       send = o .send;
       receive = receive-at (last m) 1 (s .receive) (o .receive) (omega (arith, last-least m));
       half = o .half;
       received = o .received;
     })
-    (λ e. o)
+    o
 
 pub write-scon-ok : (v : ℕ) (s : Serial) → v < 256 → SerialOk s → SerialOk (S.writeScon v s)
 unfolding S.writeScon

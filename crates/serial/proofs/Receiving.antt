@@ -1,5 +1,6 @@
--- What a tick of the receiver leaves as it was: the position at a count that is no rollover, and the receive fields of a whole frame.
-use mathlib.Core.Path.{_≡_, sym, _∙_}
+-- The receiver: two tests of its definitions by name, and what a tick leaves as it was: the position at a count that
+-- is no rollover, and the receive fields of a whole frame.
+use mathlib.Core.Path.{_≡_, refl, sym}
 use mathlib.Core.Bool.{Bool, true, false, cond, _&&_, _||_}
 use Prim.Native.Nat.{ℕ, _+_, _%_, _≤_}
 use native.Mathlib.Omega.{arith}
@@ -8,9 +9,17 @@ use borrow.Author.Tests.{ne-eqb}
 use Rattle.machine.specs.declared.Receiver.{Receiver}
 use Rattle.machine.specs.declared.Serial.{Serial}
 use Rattle.machine.specs.Bits.{bit, setBit, putBit}
-use Rattle.machine.specs.Registers.{RI, RB8, SM2}
+use Rattle.machine.specs.Record.{serialMode}
+use Rattle.machine.specs.Registers.{RI, RB8, SM2, REN}
 use Rattle.machine.specs.Serial.{withReceive, withReceived, receiveAt, counterNext, receiveCounted, bitOf, frameDone}
-use Rattle.laws.proofs.Choices.{cond-ap, cond-same, cond-has}
+use Rattle.laws.proofs.Choices.{chosen}
+
+-- the tests of the definitions: a whole frame is taken, and a write of SCON with value v asks to receive at position p
+abbrev pub takes : ℕ → Serial → Bool
+takes b s = eqb (bit RI (s .scon)) 0 && (eqb (bit SM2 (s .scon)) 0 || eqb b 1)
+
+abbrev pub asked : ℕ → ℕ → Bool
+asked v p = (eqb (serialMode v) 0 && eqb (bit REN v) 1) && (eqb (bit RI v) 0 && eqb p 0)
 
 -- the count that samples the bit is no rollover
 pub counted-at9 : (scon : ℕ) (r : Receiver) → counterNext (r .counter) ≡ 9 → receiveCounted scon r .position ≡ r .position
@@ -19,15 +28,13 @@ counted-at9 scon r h = simp (ne-eqb (r .counter) 15 (λ e. omega arith))
 
 pub bit-of-below : (votes rxd : ℕ) → bitOf votes rxd ≤ 1
 unfolding bitOf
-bit-of-below votes rxd = cond-has (λ (b : ℕ). b ≤ 1) (leb 2 (votes + rxd)) 1 0 (λ e. omega arith) (λ e. omega arith)
+bit-of-below votes rxd = chosen (λ (b : ℕ). b ≤ 1) (leb 2 (votes + rxd)) 1 0 (omega arith) (omega arith)
 
 -- a whole frame changes no receive field
 pub done-receive : (b : ℕ) (s : Serial) → frameDone b s .receive ≡ s .receive
 unfolding frameDone
 done-receive b s =
-    let takes = eqb (bit RI (s .scon)) 0 && (eqb (bit SM2 (s .scon)) 0 || eqb b 1) in
-    cond-ap (λ (t : Serial). t .receive) takes (withReceived (setBit RI (putBit RB8 b (s .scon))) (s .receive .value % 256) s) s
-    ∙ cond-same takes (s .receive)
+    chosen (λ (t : Serial). t .receive ≡ s .receive) (takes b s) (withReceived (setBit RI (putBit RB8 b (s .scon))) (s .receive .value % 256) s) s refl refl
 
 -- it rests in mode 1
 pub done-rests : (b : ℕ) (rests : Bool) (s : Serial)

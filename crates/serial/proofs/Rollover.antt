@@ -1,6 +1,7 @@
--- No serial counter rolls over twice in a cycle: by induction, n ticks from count c roll over at most (c + n) / 16 times.
+-- No serial counter rolls over twice in a cycle: by induction, n ticks from count c roll over at most (c + n) / 16
+-- times.
 use mathlib.Core.Path.{_≡_, refl, ap}
-use mathlib.Core.Bool.{true, false, _&&_}
+use mathlib.Core.Bool.{true, false}
 use Prim.Native.Nat.{ℕ, zero, suc, _+_, _-_, _/_, _≤_, zero-le}
 use native.Mathlib.Omega.{arith}
 use lib.Dec.{eqb, leb}
@@ -8,13 +9,13 @@ use borrow.Author.Tests.{eqb-true, eqb-false, lt-leb}
 use Rattle.machine.specs.declared.Receiver.{Receiver}
 use Rattle.machine.specs.declared.Serial.{Serial}
 use Rattle.machine.specs.declared.Ticks.{Ticks}
-use Rattle.machine.specs.Bits.{bit, setBit, putBit}
+use Rattle.machine.specs.Bits.{setBit, putBit}
 use Rattle.machine.specs.Record.{serialMode, lastPosition}
-use Rattle.machine.specs.Registers.{REN, TI}
+use Rattle.machine.specs.Registers.{TI}
 use Rattle.machine.specs.Serial as S
 use Rattle.machine.specs.Serial.{withSend, withReceive, sendAt, receiveAt, withVotes, withValue, sendCounted, counterNext, rollsOver}
-use Rattle.serial.specs.Ranges.{SerialOk, TicksOk}
-use Rattle.laws.proofs.Choices.{cond-has, by-test}
+use Rattle.laws.specs.Ranges.{SerialOk, TicksOk}
+use Rattle.laws.proofs.Choices.{chosen, cond-has, by-test}
 use Rattle.serial.proofs.Receiving.{done-receive}
 use Rattle.serial.proofs.Ranges.{kept, send-kept}
 
@@ -30,10 +31,10 @@ tick-sends s =
     let n = counterNext (s .send .counter) in
     let u = sendCounted (s .send) in
     let p = s .send .position in
-    cond-has (SendsAt n) (rollsOver (s .send .counter)) _ (withSend (s .scon) u s)
-    (λ e. cond-has (SendsAt n) (eqb p 0) (withSend (s .scon) u s) _ (λ d. refl)
-    (λ d. cond-has (SendsAt n) (eqb p (lastPosition (s .scon))) (withSend (setBit TI (s .scon)) (sendAt 0 u) s) (withSend (s .scon) (sendAt (p + 1) u) s) (λ f. refl) (λ f. refl)))
-    (λ e. refl)
+    chosen (SendsAt n) (rollsOver (s .send .counter)) _ (withSend (s .scon) u s)
+    (chosen (SendsAt n) (eqb p 0) (withSend (s .scon) u s) _ refl
+    (chosen (SendsAt n) (eqb p (lastPosition (s .scon))) (withSend (setBit TI (s .scon)) (sendAt 0 u) s) (withSend (s .scon) (sendAt (p + 1) u) s) refl refl))
+    refl
 
 send-rolls : (n : ℕ) (s : Serial) → s .send .counter ≤ 15 → S.sendRolls n s ≤ (s .send .counter + n) / 16
 unfolding S.sendRolls SendsAt
@@ -58,13 +59,13 @@ bit-receives b s =
     let p = r .position in
     let c = r .counter in
     let done = S.frameDone b s in
-    cond-has (ReceivesAt c) (eqb p 1) _ _
-    (λ e. cond-has (ReceivesAt c) (eqb b 1) (withReceive (receiveAt 0 r) s) s (λ d. refl) (λ d. refl))
-    (λ e. cond-has (ReceivesAt c) (leb p 9) (withReceive (withValue (putBit (p - 2) b (r .value)) r) s) _ (λ d. refl)
-    (λ d. cond-has (ReceivesAt c) (eqb p 10) _ (withReceive (receiveAt 0 r) s)
-    (λ f. cond-has (ReceivesAt c) (eqb (serialMode (s .scon)) 1) (withReceive (receiveAt 0 r) done) done (λ g. refl)
-    (λ g. ap (λ (q : Receiver). q .counter) (done-receive b s)))
-    (λ f. refl)))
+    chosen (ReceivesAt c) (eqb p 1) _ _
+    (chosen (ReceivesAt c) (eqb b 1) (withReceive (receiveAt 0 r) s) s refl refl)
+    (chosen (ReceivesAt c) (leb p 9) (withReceive (withValue (putBit (p - 2) b (r .value)) r) s) _ refl
+    (chosen (ReceivesAt c) (eqb p 10) _ (withReceive (receiveAt 0 r) s)
+    (chosen (ReceivesAt c) (eqb (serialMode (s .scon)) 1) (withReceive (receiveAt 0 r) done) done refl
+    (ap (λ (q : Receiver). q .counter) (done-receive b s)))
+    refl))
 
 work-receives : (rxd : ℕ) (s : Serial) → ReceivesAt (counterNext (s .receive .counter)) (S.receiveWork rxd s)
 unfolding ReceivesAt S.receiveWork S.receiveCounted
@@ -72,17 +73,17 @@ work-receives rxd s =
     let n = counterNext (s .receive .counter) in
     let r = S.receiveCounted (s .scon) (s .receive) in
     let t = withReceive r s in
-    cond-has (ReceivesAt n) (eqb n 7) (withReceive (withVotes rxd r) s) _ (λ e. refl)
-    (λ e. cond-has (ReceivesAt n) (eqb n 8) (withReceive (withVotes (S.votesAdded (r .votes) rxd) r) s) _ (λ d. refl)
-    (λ d. cond-has (ReceivesAt n) (eqb n 9) (S.receiveBit (S.bitOf (r .votes) rxd) t) t (λ f. bit-receives (S.bitOf (r .votes) rxd) t) (λ f. refl)))
+    chosen (ReceivesAt n) (eqb n 7) (withReceive (withVotes rxd r) s) _ refl
+    (chosen (ReceivesAt n) (eqb n 8) (withReceive (withVotes (S.votesAdded (r .votes) rxd) r) s) _ refl
+    (chosen (ReceivesAt n) (eqb n 9) (S.receiveBit (S.bitOf (r .votes) rxd) t) t (bit-receives (S.bitOf (r .votes) rxd) t) refl))
 
 start-receives : (rxd : ℕ) (s : Serial) → S.receiveStart rxd s .receive .counter ≤ s .receive .counter
 unfolding S.receiveStart
 start-receives rxd s =
     let r = s .receive in
     let started : Receiver = record { position = 1; value = 0; counter = 0; votes = r .votes; sample = r .sample } in
-    cond-has (λ (t : Serial). t .receive .counter ≤ r .counter) (eqb (bit REN (s .scon)) 1 && (eqb (r .sample) 1 && eqb rxd 0)) (withReceive started s) s
-    (λ e. zero-le) (λ e. omega arith)
+    chosen (λ (t : Serial). t .receive .counter ≤ r .counter) (S.startFound rxd s) (withReceive started s) s
+    zero-le (omega arith)
 
 tick-rests : (rxd : ℕ) (s : Serial) → eqb (s .receive .position) 0 ≡ true → S.receiveTick rxd s .receive .counter ≤ s .receive .counter
 unfolding S.receiveTick

@@ -1,4 +1,5 @@
--- At most 16 ticks of the sender are one sum on its counter, and one move where that rolls over: by induction on the ticks.
+-- At most 16 ticks of the sender are one sum on its counter, and one move where that rolls over: by induction on the
+-- ticks.
 use mathlib.Core.Path.{_≡_, ap, sym, _∙_}
 use mathlib.Core.Bool.{cond}
 use mathlib.Core.Logic.{⊎-elim}

@@ -1,16 +1,9 @@
 -- Document 01, "Serial port": where the next cycle finds the serial port resting.
 use mathlib.Core.Bool.{Bool, _&&_, _||_, not}
-use Prim.Native.Nat.{ℕ}
 use lib.Dec.{eqb}
 use Rattle.machine.specs.declared.Serial.{Serial}
 use Rattle.machine.specs.declared.Ticks.{Ticks}
-use Rattle.machine.specs.Bits.{bit}
 use Rattle.machine.specs.Record.{serialMode}
-use Rattle.machine.specs.Registers.{REN}
-
--- a start bit waits for the next tick: REN = 1, last line sample 1 and RXD 0
-abbrev pub startWaits : ℕ → Serial → Bool
-startWaits rxd s = eqb (bit REN (s .scon)) 1 && (eqb (s .receive .sample) 1 && eqb rxd 0)
 
 -- no tick comes, and in mode 0 nothing is under way
 abbrev pub idles : Ticks → Serial → Bool

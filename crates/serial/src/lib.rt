@@ -1,11 +1,12 @@
 // The serial port: steps 4 and 5 of a machine cycle, and the writes to SBUF and SCON.
 ghost use mathlib.Core.Path.{_≡_};
-ghost use Prim.Native.Nat.{ℕ, _≤_, _<_};
+ghost use Prim.Native.Nat.{ℕ, _%_, _≤_, _<_};
 ghost use Rattle.machine.specs.Bits.{putBit};
 ghost use Rattle.machine.specs.Record.{lastPosition, serialMode};
 ghost use Rattle.machine.specs.Serial as S;
-ghost use Rattle.serial.specs.Ranges.{SerialOk, TicksOk};
+ghost use Rattle.laws.specs.Ranges.{SerialOk, TicksOk};
 ghost use Rattle.serial.specs.Rest as Rest;
+use laws::pair16;
 use laws::picked;
 use machine::Receiver;
 use machine::Serial;
@@ -22,7 +23,7 @@ use machine::places::TCLK;
 use machine::places::TI;
 
 // The serial mode.
-fn mode_of(scon: u8) -> u8
+pub fn mode_of(scon: u8) -> u8
     ensures { λ r. ⌜ r ≡ serialMode scon ⌝ }
 {
     (scon >> SM01) & 3
@@ -34,7 +35,7 @@ fn mode_of(scon: u8) -> u8
 pub fn write_sbuf(v: u8, s: Serial) -> Serial
     ensures { λ r. ⌜ r ≡ S.writeSbuf v s ⌝ }
 {
-    let value = ((((s.scon >> TB8) & 1) as u16) << 8) | (v as u16);
+    let value = pair16(v, (s.scon >> TB8) & 1);
     let mut t = s;
     t.send.position = 1;
     t.send.value = value;
@@ -61,24 +62,30 @@ pub fn write_scon(v: u8, s: Serial) -> Serial
 
 // Step 4: ticks
 
+// The ticks of a cycle in mode 2.
+pub fn mode2_ticks(smod: u8) -> u8
+    ensures { λ r. ⌜ r ≡ S.mode2Ticks smod ⌝ }
+{
+    picked(smod == 1, 6, 3)
+}
+
 // The ticks of a direction, from those of Timer 1 and of Timer 2.
 fn ticks_of(mode: u8, smod: u8, clock: u8, by1: u8, by2: u8) -> u8
     ensures { λ r. ⌜ r ≡ S.ticksOf mode smod clock by1 by2 ⌝ }
 {
     let timed = picked(clock == 1, by2, by1);
-    let fixed = picked(smod == 1, 6, 3);
-    picked(mode == 0, 0, picked(mode == 2, fixed, timed))
+    picked(mode == 0, 0, picked(mode == 2, mode2_ticks(smod), timed))
 }
 
 // The ticks of Timer 1: with SMOD = 0 every second overflow.
-fn ticks1(smod: u8, half: u8, overflow1: u8) -> u8
+pub fn ticks1(smod: u8, half: u8, overflow1: u8) -> u8
     ensures { λ r. ⌜ r ≡ S.ticks1 smod half overflow1 ⌝ }
 {
     picked(smod == 1, overflow1, picked(half == 1, overflow1, 0))
 }
 
 // With SMOD = 0 an overflow flips half.
-fn half_after(smod: u8, half: u8, overflow1: u8) -> u8
+pub fn half_after(smod: u8, half: u8, overflow1: u8) -> u8
     ensures { λ r. ⌜ r ≡ S.halfAfter smod half overflow1 ⌝ }
 {
     picked(
@@ -148,19 +155,6 @@ fn send_ticks(n: u8, s: Serial) -> Serial
     if counted >= 16 { send_move(t) } else { t }
 }
 
-fn send(n: u8, s: Serial) -> Serial
-    requires { ⌜ n ≤ 16 ⌝ }
-    requires { ⌜ s .send .counter ≤ 15 ⌝ }
-    requires { ⌜ s .send .position ≤ 11 ⌝ }
-    ensures { λ r. ⌜ r ≡ S.send n s ⌝ }
-{
-    if mode_of(s.scon) == 0 {
-        send_move(s)
-    } else {
-        send_ticks(n, s)
-    }
-}
-
 // The output line.
 pub fn line_of(s: Serial) -> u8
     requires { ⌜ s .send .position ≤ 11 ⌝ }
@@ -176,9 +170,9 @@ pub fn line_of(s: Serial) -> u8
 
 // Receiving
 
-// The line falls while resting with REN = 1.
-fn starts(rxd: u8, s: Serial) -> bool
-    ensures { λ r. ⌜ r ≡ Rest.startWaits rxd s ⌝ }
+// A start bit: the line falls with REN = 1.
+pub fn start_found(rxd: u8, s: Serial) -> bool
+    ensures { λ r. ⌜ r ≡ S.startFound rxd s ⌝ }
 {
     (((s.scon >> REN) & 1) == 1) & ((s.receive.sample == 1) & (rxd == 0))
 }
@@ -187,7 +181,7 @@ fn receive_start(rxd: u8, s: Serial) -> Serial
     ensures { λ r. ⌜ r ≡ S.receiveStart rxd s ⌝ }
 {
     let mut t = s;
-    if starts(rxd, s) {
+    if start_found(rxd, s) {
         t.receive.position = 1;
         t.receive.value = 0;
         t.receive.counter = 0;
@@ -242,21 +236,28 @@ fn put_bit(place: u8, b: u8, value: u16) -> u16
     (value & !(1 << place)) | ((b as u16) << place)
 }
 
+// SCON, and the received byte: the value's bits 0 to 7.
+fn with_received(scon: u8, s: Serial) -> Serial
+    ensures { λ r. ⌜ r ≡ S.withReceived scon (s .receive .value % 256) s ⌝ }
+{
+    let received = (s.receive.value & 0xff) as u8;
+    let mut t = s;
+    t.scon = scon;
+    t.received = received;
+    t
+}
+
 // A whole frame: taken if RI = 0 and (SM2 = 0 or the bit is 1).
 fn frame_done(b: u8, s: Serial) -> Serial
     requires { ⌜ b ≤ 1 ⌝ }
     ensures { λ r. ⌜ r ≡ S.frameDone b s ⌝ }
 {
-    let mut t = s;
     let scon = s.scon;
     if (((scon >> RI) & 1) == 0) & ((((scon >> SM2) & 1) == 0) | (b == 1)) {
-        let flagged = ((scon & !(1 << RB8)) | (b << RB8)) | (1 << RI);
-        let received = (s.receive.value & 0xff) as u8;
-        t.scon = flagged;
-        t.received = received;
-        return t;
+        with_received(((scon & !(1 << RB8)) | (b << RB8)) | (1 << RI), s)
+    } else {
+        s
     }
-    t
 }
 
 // What the bit does at each position.
@@ -354,8 +355,8 @@ fn receive_ticks(n: u8, rxd: u8, s: Serial) -> Serial
     requires { ⌜ SerialOk s ⌝ }
     ensures { λ r. ⌜ r ≡ S.receiveTicks n rxd s ⌝ }
 {
-    let waits = starts(rxd, s);
-    if (s.receive.position == 0) & !waits {
+    let found = start_found(rxd, s);
+    if (s.receive.position == 0) & !found {
         let sample = picked(n == 0, s.receive.sample, rxd);
         let mut t = s;
         t.receive.sample = sample;
@@ -385,24 +386,9 @@ fn receive_shift(rxd: u8, s: Serial) -> Serial
         t.receive.position = next;
         return t;
     }
-    let flagged = s.scon | (1 << RI);
-    let received = (s.receive.value & 0xff) as u8;
-    t.scon = flagged;
-    t.receive.position = 0;
-    t.received = received;
-    t
-}
-
-fn receive(n: u8, rxd: u8, s: Serial) -> Serial
-    requires { ⌜ rxd ≤ 1 ⌝ }
-    requires { ⌜ SerialOk s ⌝ }
-    ensures { λ r. ⌜ r ≡ S.receive n rxd s ⌝ }
-{
-    if mode_of(s.scon) == 0 {
-        receive_shift(rxd, s)
-    } else {
-        receive_ticks(n, rxd, s)
-    }
+    let mut d = with_received(s.scon | (1 << RI), s);
+    d.receive.position = 0;
+    d
 }
 
 // Nothing is under way in mode 0, or no tick comes in the others.
@@ -413,7 +399,7 @@ fn idles(k: Ticks, s: Serial) -> bool
         & ((mode_of(s.scon) != 0) | ((s.send.position == 0) & (s.receive.position == 0)))
 }
 
-// Step 5: send, then receive.
+// Step 5: send, then receive, in mode 0 by the cycle and in the others by ticks.
 pub fn serial_step(k: Ticks, rxd: u8, s: Serial) -> Serial
     requires { ⌜ TicksOk k ⌝ }
     requires { ⌜ rxd ≤ 1 ⌝ }
@@ -426,7 +412,11 @@ pub fn serial_step(k: Ticks, rxd: u8, s: Serial) -> Serial
     if idles(k, s) {
         return t;
     }
-    receive(k.receive, rxd, send(k.send, t))
+    if mode_of(s.scon) == 0 {
+        receive_shift(rxd, send_move(t))
+    } else {
+        receive_ticks(k.receive, rxd, send_ticks(k.send, t))
+    }
 }
 
 // Refusal 9: one of the two counters rolls over twice.

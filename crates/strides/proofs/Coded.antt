@@ -1,24 +1,15 @@
--- The room in the forms that code has: the lesser of two numbers by a test, the saved levels one by one, and bounds for its types.
-use Prim.Native.Nat.{ℕ, _/_, _≤_, min}
-use mathlib.Core.Path.{_≡_, refl}
-use mathlib.Core.Bool.{Bool, true, false, cond, _&&_, and-true}
+-- The saved levels are the pins' by seven tests, as code has them.
+use Prim.Native.Nat.{ℕ}
+use mathlib.Core.Path.{_≡_}
+use mathlib.Core.Bool.{_&&_, and-true}
 use mathlib.Core.List.{List, [], _∷_}
-use native.Mathlib.Nat.{le-refl, le-trans}
 use native.Mathlib.Omega.{arith}
-use lib.Dec.{eqb, ltb}
+use lib.Dec.{eqb}
 use lib.ListN.{getD, length}
-use borrow.Author.Tests.{ltb-true, ltb-false}
-use Rattle.machine.specs.declared.Timer2.{Timer2}
-use Rattle.machine.specs.declared.Device.{Device}
 use Rattle.machine.specs.Bits.{bit}
-use Rattle.machine.specs.Record.{pinsOf, levelsOf}
-use Rattle.machine.specs.Timer2.{count2, baudRate}
-use Rattle.machine.specs.Calls.{longest}
+use Rattle.machine.specs.Record.{levelsOf}
 use Rattle.strides.specs.Busy.{same}
-use Rattle.strides.specs.Stride.{roomOf, left, moves2, left2, room2, room}
-use Rattle.strides.proofs.Strides.{room-timer2}
 
--- seven saved levels
 pub same-levels : (saved : List ℕ) (l : ℕ) → length saved ≡ 7
     → same saved (levelsOf l)
     ≡ (eqb (getD saved 0 0) (bit 0 l)

@@ -6,9 +6,9 @@ pub mod Timer2
 pub mod Serial
 pub mod Settles
 pub mod Steps
+pub mod Runs
 pub mod Strides
 pub mod Overflows
 pub mod Exact
-pub mod Runs
 pub mod Rises
 pub mod Coded

@@ -114,7 +114,7 @@ counted-left each reload t c e =
     start = record { count = count2 t; overflows = 0 }
 
 pub timer2-room-left : (t : Timer2) (fell : ℕ) → timer2Step t fell .overflows ≡ 0 → 1 ≤ room2 t
-unfolding timer2Step baudStep captureStep room2 moves2 left2
+unfolding timer2Step baudStep captureStep moves2 left2
 timer2-room-left t fell = go (eqb (bit TR2 (t .t2con)) 1) (baudRate t) (eqb (bit C/T2 (t .t2con)) 0) refl
   where
     go : (run baud timer : Bool) → eqb (bit C/T2 (t .t2con)) 0 ≡ timer

@@ -10,25 +10,27 @@ use lib.Dec.{eqb}
 use Rattle.machine.specs.declared.Device.{Device}
 use Rattle.machine.specs.declared.LookAnswer.{LookAnswer}
 use Rattle.machine.specs.declared.LookAnswer.the-variants.{At, Nothing}
+use Rattle.machine.specs.Flags.{flags, anyRises}
 use Rattle.machine.specs.Cycle.{cycleOf, cycles}
-use Rattle.machine.specs.Calls.{flags, anyRises, rises, firstRise}
+use Rattle.machine.specs.Calls.{rises, firstRise}
+use Rattle.laws.specs.Ranges.{Ranges}
+use Rattle.cycle.proofs.Keeps.{cycle-ranges}
 use Rattle.strides.specs.Stride.{room, stride, strideAt, strideTimers, stride2, strideSerial}
 use Rattle.laws.proofs.Choices.{or-neither}
 use Rattle.strides.proofs.Bools.{never-both}
-use Rattle.strides.proofs.Strides.{Bounded, quiet-cycle}
-use Rattle.strides.proofs.Runs.{cycle-bounded, cycle-room}
+use Rattle.strides.proofs.Strides.{quiet-cycle, cycle-room}
 
-pub rise-none : (k n pins : ℕ) (d : Device) → n ≤ 0 → firstRise k n pins d ≡ Nothing
+rise-none : (k n pins : ℕ) (d : Device) → n ≤ 0 → firstRise k n pins d ≡ Nothing
 unfolding firstRise
 rise-none k zero pins d h = refl
 rise-none k (suc n) pins d h = absurd (omega arith)
 
-pub rise-here : (k n pins : ℕ) (d : Device) → 0 < n → rises pins d ≡ true → firstRise k n pins d ≡ At (k + 1)
+rise-here : (k n pins : ℕ) (d : Device) → 0 < n → rises pins d ≡ true → firstRise k n pins d ≡ At (k + 1)
 unfolding firstRise
 rise-here k zero pins d h e = absurd (omega arith)
 rise-here k (suc n) pins d h e = simp (e, add-one)
 
-pub rise-later : (k n pins : ℕ) (d : Device) → k < n → rises pins d ≡ false
+rise-later : (k n pins : ℕ) (d : Device) → k < n → rises pins d ≡ false
     → firstRise k (n - k) pins d ≡ firstRise (k + 1) (n - (k + 1)) pins (cycleOf pins d)
 unfolding firstRise
 rise-later k n pins d h e = go (n - k) (n - (k + 1)) (omega arith)
@@ -43,27 +45,22 @@ none-rises [] = refl
 none-rises (x ∷ xs) =
     or-neither (eqb x 0 && eqb x 1) (anyRises xs xs) (and-comm (eqb x 0) (eqb x 1) ∙ never-both x) (none-rises xs)
 
-pub quiet-still : (pins : ℕ) (d : Device) → Bounded d → 1 ≤ room pins d → rises pins d ≡ false
+pub quiet-still : (pins : ℕ) (d : Device) → Ranges d → 1 ≤ room pins d → rises pins d ≡ false
 unfolding flags stride strideAt strideTimers stride2 strideSerial
-quiet-still pins d b h = ap (λ (e : Device). anyRises (flags d) (flags e)) (quiet-cycle pins d b h) ∙ none-rises (flags d)
+quiet-still pins d r h = ap (λ (e : Device). anyRises (flags d) (flags e)) (quiet-cycle pins d r h) ∙ none-rises (flags d)
 
-pub rise-add : (m n k pins : ℕ) (d : Device) → Bounded d → m ≤ room pins d
+rise-add : (m n k pins : ℕ) (d : Device) → Ranges d → m ≤ room pins d
     → firstRise k (m + n) pins d ≡ firstRise (k + m) n pins (cycles m pins d)
 unfolding firstRise cycles
-rise-add zero n k pins d b h = simp (zero-add, add-zero)
-rise-add (suc m) n k pins d b h =
-    rw (suc-add, quiet-still pins d b (omega arith))
-    (rise-add m n (suc k) pins (cycleOf pins d) (cycle-bounded pins d b (omega arith)) (cycle-room pins d b m h)
+rise-add zero n k pins d r h = simp (zero-add, add-zero)
+rise-add (suc m) n k pins d r h =
+    rw (suc-add, quiet-still pins d r (omega arith))
+    (rise-add m n (suc k) pins (cycleOf pins d) (cycle-ranges d r pins) (cycle-room pins d r m h)
     ∙ ap (λ (j : ℕ). firstRise j n pins (cycles m pins (cycleOf pins d))) (omega arith))
 
-pub rise-stride : (m n k pins : ℕ) (d : Device) → Bounded d → m ≤ room pins d → k + m ≤ n
+rise-stride : (m n k pins : ℕ) (d : Device) → Ranges d → m ≤ room pins d → k + m ≤ n
     → firstRise k (n - k) pins d ≡ firstRise (k + m) (n - (k + m)) pins (cycles m pins d)
-rise-stride m n k pins d b h w = ap (λ (j : ℕ). firstRise k j pins d) (omega arith) ∙ rise-add m (n - (k + m)) k pins d b h
-
--- a run that is quiet to its end has no rise
-pub rise-quiet : (m k pins : ℕ) (d : Device) → Bounded d → m ≤ room pins d → firstRise k m pins d ≡ Nothing
-rise-quiet m k pins d b h =
-    ap (λ (j : ℕ). firstRise k j pins d) (sym (add-zero m)) ∙ (rise-add m 0 k pins d b h ∙ rise-none _ 0 pins _ (omega arith))
+rise-stride m n k pins d r h w = ap (λ (j : ℕ). firstRise k j pins d) (omega arith) ∙ rise-add m (n - (k + m)) k pins d r h
 
 -- The invariant of the loop that looks ahead, `firstRise k (n - k) pins d ≡ v`, at each of its ways on.
 module _ (k n pins : ℕ) (d : Device) {v : LookAnswer} (inv : firstRise k (n - k) pins d ≡ v) where
@@ -77,9 +74,9 @@ module _ (k n pins : ℕ) (d : Device) {v : LookAnswer} (inv : firstRise k (n - 
       ap (firstRise (k + 1) (n - (k + 1)) pins) e
       ∙ (sym (rise-later k n pins d h (sym (ap (λ (u : Device). anyRises (flags d) (flags u)) e) ∙ r)) ∙ inv)
 
-  pub on-stride : (m : ℕ) {u : Device} → Bounded d → m ≤ room pins d → k + m ≤ n → u ≡ cycles m pins d
+  pub on-stride : (m : ℕ) {u : Device} → Ranges d → m ≤ room pins d → k + m ≤ n → u ≡ cycles m pins d
       → firstRise (k + m) (n - (k + m)) pins u ≡ v
-  on-stride m b h w e = ap (firstRise (k + m) (n - (k + m)) pins) e ∙ (sym (rise-stride m n k pins d b h w) ∙ inv)
+  on-stride m r h w e = ap (firstRise (k + m) (n - (k + m)) pins) e ∙ (sym (rise-stride m n k pins d r h w) ∙ inv)
 
   pub on-none : n ≤ k → Nothing ≡ v
   on-none h = sym (rise-none k (n - k) pins d (omega arith)) ∙ inv

@@ -1,22 +1,20 @@
--- A cycle of a settled device, from what steps 2 to 5 leave of its parts: where they leave TCON, SCON, T2CON and the due marks as they
--- were, steps 6 to 8 change nothing but the cycle number.
+-- A cycle of a settled device, from what steps 2 to 5 leave of its parts: where they leave TCON, SCON, T2CON and the due
+-- marks as they were, steps 6 to 8 change nothing but the cycle number.
 use Prim.Native.Nat.{ℕ, _+_, _%_, _^_}
 use mathlib.Core.Path.{_≡_, refl, sym, ap, _∙_}
 use mathlib.Core.List.{List}
 use Rattle.machine.specs.declared.Timers.{Timers}
-use Rattle.machine.specs.declared.TimersCounted.{TimersCounted}
 use Rattle.machine.specs.declared.Timer2.{Timer2}
-use Rattle.machine.specs.declared.Timer2Counted.{Timer2Counted}
+use Rattle.machine.specs.declared.Counted.{Counted}
 use Rattle.machine.specs.declared.Serial.{Serial}
 use Rattle.machine.specs.declared.Device.{Device}
 use Rattle.machine.specs.Bits.{bit}
-use Rattle.machine.specs.Registers.{RXD, T0, T1, T2, T2EX}
+use Rattle.machine.specs.Registers.{RXD, T0, T1, T2}
 use Rattle.machine.specs.Record.{levelsOf}
-use Rattle.machine.specs.Timers.{timersStep}
-use Rattle.machine.specs.Timer2.{timer2Step}
 use Rattle.machine.specs.Serial.{serialStep}
 use Rattle.machine.specs.Interrupts.{seenOf}
-use Rattle.machine.specs.Cycle.{falls, polling, externals, timersAfter, timer2After, ticksIn, steps}
+use Rattle.machine.specs.Cycle.{falls, polling, externals, timersAfter, timer2After, counted, ticksIn, steps}
+use Rattle.strides.specs.Stride.{withParts}
 use Rattle.strides.proofs.Settles.{Rest, no-fall, externals-rest}
 
 -- step 7 of Timers 0 and 1 at rest
@@ -31,27 +29,13 @@ unfolding timer2After
 timer2-after saved l t p =
     λ i. record { t2con = t .t2con; rcap2l = t .rcap2l; rcap2h = t .rcap2h; tl2 = t .tl2; th2 = t .th2; due2 = p i }
 
--- the device after a cycle, from its parts after it
-after : ℕ → Device → Timers → Timer2 → Serial → Device
-after l d t u s =
-    record {
-      kind = d .kind;
-      pcon = d .pcon;
-      timers = t;
-      timer2 = u;
-      serial = s;
-      interrupts = polling (seenOf (t .tcon) (s .scon) (u .t2con)) (d .interrupts);
-      levels = levelsOf l;
-      cycle = (d .cycle + 1) % 2 ^ 64;
-    }
-
--- the parts after a cycle have these bits and marks as before
-pub record Kept (d : Device) (t : Timers) (u : Timer2) (s : Serial) : Type 0 where
-  pub tcon : t .tcon ≡ d .timers .tcon
-  pub due0 : t .due0 ≡ d .timers .due0
-  pub due1 : t .due1 ≡ d .timers .due1
-  pub t2con : u .t2con ≡ d .timer2 .t2con
-  pub due2 : u .due2 ≡ d .timer2 .due2
+-- what steps 2 to 5 leave has these bits and marks as before
+pub record Kept (d : Device) (c : Counted) (s : Serial) : Type 0 where
+  pub tcon : c .timers .timers .tcon ≡ d .timers .tcon
+  pub due0 : c .timers .timers .due0 ≡ d .timers .due0
+  pub due1 : c .timers .timers .due1 ≡ d .timers .due1
+  pub t2con : c .timer2 .timer2 .t2con ≡ d .timer2 .t2con
+  pub due2 : c .timer2 .timer2 .due2 ≡ d .timer2 .due2
   pub scon : s .scon ≡ d .serial .scon
 
 module _ (l : ℕ) (d : Device) (r : Rest l d) where
@@ -59,49 +43,31 @@ module _ (l : ℕ) (d : Device) (r : Rest l d) where
   pub fallen : (k : ℕ) → falls (levelsOf l) l k ≡ 0 → falls (d .levels) l k ≡ 0
   fallen k e = ap (λ (saved : List ℕ). falls saved l k) (r .levels) ∙ e
 
-  pub steps-rest : (c : TimersCounted) (u : Timer2Counted) (s : Serial) → timersStep (d .timers) l ≡ c
-      → timer2Step (d .timer2) (falls (d .levels) l T2EX) ≡ u → serialStep (ticksIn d c u) (bit RXD l) (d .serial) ≡ s
-      → Kept d (c .timers) (u .timer2) s
-      → steps d l ≡ record {
-        kind = d .kind;
-        pcon = d .pcon;
-        timers = c .timers;
-        timer2 = u .timer2;
-        serial = s;
-        interrupts = d .interrupts;
-        levels = d .levels;
-        cycle = (d .cycle + 1) % 2 ^ 64;
-      }
-  unfolding steps after timer2After levelsOf
-  steps-rest c u s p q e k =
-      (λ i. after l d (timersAfter (d .levels) l (p i .timers)) (timer2After (d .levels) l (q i .timer2))
-      (serialStep (ticksIn d (p i) (q i)) (bit RXD l) (d .serial)))
-      ∙ ((λ i. after l d (timers i) (timer2 i) (e i)) ∙ (λ i. record {
-        kind = d .kind;
-        pcon = d .pcon;
-        timers = c .timers;
-        timer2 = u .timer2;
-        serial = s;
-        interrupts = record {
-          ie = d .interrupts .ie;
-          ip = d .interrupts .ip;
-          seen = (seen ∙ sym (r .seen)) i;
-          polled = (r .seen ∙ sym (r .polled)) i;
-          low = d .interrupts .low;
-          high = d .interrupts .high;
-        };
-        levels = sym (r .levels) i;
-        cycle = (d .cycle + 1) % 2 ^ 64;
-      }))
+  pub steps-rest : (c : Counted) (s : Serial) → counted d l ≡ c → serialStep (ticksIn d c) (bit RXD l) (d .serial) ≡ s → Kept d c s
+      → steps d l ≡ withParts ((d .cycle + 1) % 2 ^ 64) (c .timers .timers) (c .timer2 .timer2) s d
+  unfolding steps timer2After levelsOf
+  steps-rest c s p e k = rw (p, timers, timer2, e, still, ← r .levels)
     where
-      timers : timersAfter (d .levels) l (c .timers) ≡ c .timers
+      timers : timersAfter (d .levels) l (c .timers .timers) ≡ c .timers .timers
       timers =
-          timers-after (d .levels) l (c .timers)
+          timers-after (d .levels) l (c .timers .timers)
           ((λ i. externals (r .levels i) l (k .tcon i)) ∙ (externals-rest l (d .timers .tcon) (r .level0) (r .level1) ∙ sym (k .tcon)))
           (fallen T0 (no-fall l T0 refl) ∙ (sym (r .due0) ∙ sym (k .due0))) (fallen T1 (no-fall l T1 refl) ∙ (sym (r .due1) ∙ sym (k .due1)))
 
-      timer2 : timer2After (d .levels) l (u .timer2) ≡ u .timer2
-      timer2 = timer2-after (d .levels) l (u .timer2) (fallen T2 (no-fall l T2 refl) ∙ (sym (r .due2) ∙ sym (k .due2)))
+      timer2 : timer2After (d .levels) l (c .timer2 .timer2) ≡ c .timer2 .timer2
+      timer2 = timer2-after (d .levels) l (c .timer2 .timer2) (fallen T2 (no-fall l T2 refl) ∙ (sym (r .due2) ∙ sym (k .due2)))
 
-      seen : seenOf (c .timers .tcon) (s .scon) (u .timer2 .t2con) ≡ seenOf (d .timers .tcon) (d .serial .scon) (d .timer2 .t2con)
-      seen = λ i. seenOf (k .tcon i) (k .scon i) (k .t2con i)
+      -- seen and polled are the flags
+      seen : seenOf (c .timers .timers .tcon) (s .scon) (c .timer2 .timer2 .t2con) ≡ d .interrupts .seen
+      seen = (λ i. seenOf (k .tcon i) (k .scon i) (k .t2con i)) ∙ sym (r .seen)
+
+      still : polling (seenOf (c .timers .timers .tcon) (s .scon) (c .timer2 .timer2 .t2con)) (d .interrupts) ≡ d .interrupts
+      still =
+          λ i. record {
+            ie = d .interrupts .ie;
+            ip = d .interrupts .ip;
+            seen = seen i;
+            polled = (r .seen ∙ sym (r .polled)) i;
+            low = d .interrupts .low;
+            high = d .interrupts .high;
+          }

@@ -71,7 +71,7 @@ module _ (t : Timer2) (e : t .due2 ≡ 0) (timer : Bool) (c : eqb (bit C/T2 (t .
 -- step 3 of a quiet cycle, T2EX not falling, moves Timer 2 by a cycle's counts and hands on no overflow
 pub quiet-timer2 : (t : Timer2) → t .due2 ≡ 0 → t .tl2 < 256 → 1 ≤ room2 t
     → timer2Step t 0 ≡ record { timer2 = stride2 1 t; overflows = 0; tf2 = 0 }
-unfolding timer2Step room2 moves2 left2 stride2 counts2
+unfolding timer2Step moves2 left2 stride2 counts2
 quiet-timer2 t e f = go (eqb (bit TR2 (t .t2con)) 1) (baudRate t) (eqb (bit C/T2 (t .t2con)) 0) refl
   where
     still : Timer2 → Timer2Counted
@@ -122,20 +122,14 @@ module _ (t : Timer2) where
       ap (λ (n : ℕ). withCount2 n t)
       (ap (λ (n : ℕ). n + counts2 m t) (joined (count2 t + counts2 1 t)) ∙ counts-more m (count2 t) (moves2 t) (baudRate t))
 
-  pub timer2-room : (m : ℕ) → room2 (stride2 m t) ≡ roomOf (moves2 t) (left2 t - m)
-  unfolding room2 left2 stride2 counts2 moves2 baudRate
+  timer2-room : (m : ℕ) → room2 (stride2 m t) ≡ roomOf (moves2 t) (left2 t - m)
+  unfolding left2 stride2 counts2 moves2 baudRate
   timer2-room m =
       ap (λ (n : ℕ). roomOf (moves2 t) (cond (baudRate t) (left 16 n / 6) (left 16 n))) (joined (count2 t + counts2 m t))
       ∙ counts-room m (count2 t) (moves2 t) (baudRate t)
 
-  pub timer2-low : (m : ℕ) → stride2 m t .tl2 < 256
-  unfolding stride2
-  timer2-low m = omega arith
-
   pub timer2-left : (k m : ℕ) → k + m ≤ room2 t → k ≤ room2 (stride2 m t)
-  unfolding room2
   timer2-left k m h = rw (timer2-room m) (unit-room k m (moves2 t) (left2 t) h)
 
   pub timer2-back : (k m : ℕ) → 1 ≤ k → k + m ≤ longest → k ≤ room2 (stride2 m t) → k + m ≤ room2 t
-  unfolding room2
   timer2-back k m p q h = unit-back k m (moves2 t) (left2 t) p q (rw (timer2-room m) at h)

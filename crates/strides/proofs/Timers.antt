@@ -15,7 +15,7 @@ use Rattle.strides.specs.Stride.{roomOf, left, leftIn, by8, moved, moves
 use Rattle.laws.proofs.Choices.{and-left}
 use Rattle.strides.proofs.Records.{timers-path, timers-counted-path}
 use Rattle.laws.proofs.Counting.{count-eq}
-use Rattle.strides.proofs.Pairs.{no-mode, one-count, moved-none, moved-more, moved-still, moved-below, moved-room, moved-low, moved-high, left-low, unit-room, unit-back}
+use Rattle.strides.proofs.Pairs.{no-mode, one-count, moved-none, moved-more, moved-still, moved-room, moved-low, moved-high, left-low, unit-room, unit-back}
 
 -- One cycle
 
@@ -188,7 +188,7 @@ module _ (l : ℕ) (t : Timers) where
       refl refl
 
   -- the room after a stride
-  pub timers-room : (m : ℕ) → roomTimers l (strideTimers m l t)
+  timers-room : (m : ℕ) → roomTimers l (strideTimers m l t)
       ≡ min (roomOf (counts0 t l) (leftIn (timer0Mode t) (t .tl0) (t .th0) - m))
       (min (roomOf (countsHigh0 t) (left 8 (t .th0) - m)) (roomOf (moves1 t l) (leftIn (timer1Mode t) (t .tl1) (t .th1) - m)))
   unfolding roomTimers strideTimers counts0 counts1 countsHigh0 moves1
@@ -213,12 +213,3 @@ module _ (l : ℕ) (t : Timers) where
       le-min (unit-back k m (counts0 t l) _ p q (le-trans r (min-le-left _ _)))
       (le-min (unit-back k m (countsHigh0 t) _ p q (le-trans r (le-trans (min-le-right _ _) (min-le-left _ _))))
       (unit-back k m (moves1 t l) _ p q (le-trans r (le-trans (min-le-right _ _) (min-le-right _ _)))))
-
-  -- TL0 and TL1 stay bytes
-  pub timers-low0 : (m : ℕ) → t .tl0 < 256 → m ≤ roomTimers l t → strideTimers m l t .tl0 < 256
-  unfolding strideTimers
-  timers-low0 m f h = moved-below (counts0 t l) (timer0Mode t) (t .tl0) (t .th0) m f (room-low m l t h)
-
-  pub timers-low1 : (m : ℕ) → t .tl1 < 256 → m ≤ roomTimers l t → strideTimers m l t .tl1 < 256
-  unfolding strideTimers
-  timers-low1 m f h = moved-below (moves1 t l) (timer1Mode t) (t .tl1) (t .th1) m f (room-one m l t h)

@@ -3,15 +3,11 @@ use Prim.Native.Nat.{ℕ}
 use mathlib.Core.Bool.{Bool, true, false, _&&_, _||_, not}
 use mathlib.Core.List.{List, [], _∷_, _++_}
 use lib.Dec.{eqb}
+use Rattle.machine.specs.declared.Overflows.{Overflows}
 use Rattle.machine.specs.declared.Device.{Device}
-use Rattle.machine.specs.declared.TimersCounted.{TimersCounted}
-use Rattle.machine.specs.declared.Timer2Counted.{Timer2Counted}
-use Rattle.machine.specs.Registers.{T2EX}
 use Rattle.machine.specs.Record.{pinsOf}
-use Rattle.machine.specs.Timers.{timersStep}
-use Rattle.machine.specs.Timer2.{timer2Step}
-use Rattle.machine.specs.Cycle.{falls, cycleOf}
-use Rattle.machine.specs.Calls.{flags}
+use Rattle.machine.specs.Flags.{flags}
+use Rattle.machine.specs.Cycle.{counted, overflowsOf, cycleOf}
 
 -- two lists of numbers are the same
 unfoldable pub same : List ℕ → List ℕ → Bool
@@ -21,15 +17,13 @@ same (a ∷ r) [] = false
 same (a ∷ r) (b ∷ s) = eqb a b && same r s
 
 -- a timer overflowed: Timer 0, TH0 in mode 3, Timer 1 or Timer 2
-abbrev pub overflowed : TimersCounted → Timer2Counted → Bool
-overflowed t u =
-    (not (eqb (t .overflow0) 0) || not (eqb (t .«overflow_th0») 0)) || (not (eqb (t .overflow1) 0) || not (eqb (u .overflows) 0))
+abbrev pub overflowed : Overflows → Bool
+overflowed o =
+    (not (eqb (o .timer0) 0) || not (eqb (o .th0) 0)) || (not (eqb (o .timer1) 0) || not (eqb (o .timer2) 0))
 
 -- a timer overflows in the next cycle
 unfoldable pub overflows : ℕ → Device → Bool
-overflows pins d =
-    let l = pinsOf (d .kind) pins in
-    overflowed (timersStep (d .timers) l) (timer2Step (d .timer2) (falls (d .levels) l T2EX))
+overflows pins d = overflowed (overflowsOf (counted d (pinsOf (d .kind) pins)))
 
 -- a serial position is nonzero
 unfoldable pub working : Device → Bool

@@ -9,12 +9,12 @@ use Rattle.machine.specs.declared.Interrupts.{Interrupts}
 use Rattle.machine.specs.declared.Device.{Device}
 use Rattle.machine.specs.declared.Count.{Count}
 use Rattle.machine.specs.Bits.{bit}
-use Rattle.machine.specs.Registers.{RXD, INT0, INT1, IT0, IT1, IE0, IE1, SMOD, REN, TR2, C/T2}
+use Rattle.machine.specs.Registers.{RXD, INT0, INT1, IT0, IT1, IE0, IE1, SMOD, TR2, C/T2}
 use Rattle.machine.specs.Record.{serialMode, pinsOf, levelsOf}
 use Rattle.machine.specs.Counting.{pair13, pair16, hold}
 use Rattle.machine.specs.Timers.{timer0Mode, timer1Mode, counts0, counts1, countsHigh0}
 use Rattle.machine.specs.Timer2.{count2, withCount2, baudRate}
-use Rattle.machine.specs.Serial.{withSample}
+use Rattle.machine.specs.Serial.{startFound, mode2Ticks, withSample}
 use Rattle.machine.specs.Interrupts.{seenOf}
 use Rattle.machine.specs.Calls.{longest}
 use Rattle.strides.specs.Busy.{same}
@@ -23,9 +23,9 @@ use Rattle.strides.specs.Busy.{same}
 
 -- A device is settled if a cycle without overflows finds nothing to do
 
--- IEi of a level-triggered input is 1 - L
+-- IEi of a level-triggered input is 1 - L: the two differ
 abbrev pub levelSettled : ℕ → ℕ → ℕ → ℕ → Bool
-levelSettled it ie level tcon = eqb (bit it tcon) 1 || eqb (bit ie tcon) (1 - level)
+levelSettled it ie level tcon = eqb (bit it tcon) 1 || not (eqb (bit ie tcon) level)
 
 -- Timers 0 and 1, and step 6
 unfoldable pub timersSettled : ℕ → Timers → Bool
@@ -34,24 +34,27 @@ timersSettled l t =
     && (levelSettled IT0 IE0 (bit INT0 l) (t .tcon) && levelSettled IT1 IE1 (bit INT1 l) (t .tcon))
 
 -- a start bit that the next cycle finds: serial mode 2 ticks in every cycle
-unfoldable pub startWaits : ℕ → Serial → Bool
-startWaits rxd s =
-    (eqb (serialMode (s .scon)) 2 && eqb (bit REN (s .scon)) 1) && (eqb (s .receive .sample) 1 && eqb rxd 0)
+abbrev pub startNext : ℕ → Serial → Bool
+startNext rxd s = eqb (serialMode (s .scon)) 2 && startFound rxd s
 
--- both positions rest
+-- both positions rest, and the next cycle finds no start bit
 unfoldable pub serialSettled : ℕ → Serial → Bool
-serialSettled rxd s = (eqb (s .send .position) 0 && eqb (s .receive .position) 0) && not (startWaits rxd s)
+serialSettled rxd s = (eqb (s .send .position) 0 && eqb (s .receive .position) 0) && not (startNext rxd s)
 
 -- seen and polled are the flags
-unfoldable pub interruptsSettled : ℕ → Interrupts → Bool
+abbrev pub interruptsSettled : ℕ → Interrupts → Bool
 interruptsSettled now i = eqb (i .seen) now && eqb (i .polled) now
 
--- the saved levels are the pins' too
-unfoldable pub settledAt : ℕ → Device → Bool
-settledAt l d =
+-- the rest of the device: the saved levels are the pins' too
+unfoldable pub othersSettled : ℕ → Device → Bool
+othersSettled l d =
     (same (d .levels) (levelsOf l) && timersSettled l (d .timers))
-    && ((eqb (d .timer2 .due2) 0 && serialSettled (bit RXD l) (d .serial))
+    && (eqb (d .timer2 .due2) 0
     && interruptsSettled (seenOf (d .timers .tcon) (d .serial .scon) (d .timer2 .t2con)) (d .interrupts))
+
+-- the device
+unfoldable pub settledAt : ℕ → Device → Bool
+settledAt l d = serialSettled (bit RXD l) (d .serial) && othersSettled l d
 
 -- The room of a unit that counts: its cycles before the one in which it overflows; where it does not count, any jump's
 
@@ -85,12 +88,17 @@ unfoldable pub left2 : Timer2 → ℕ
 left2 t = cond (baudRate t) (left 16 (count2 t) / 6) (left 16 (count2 t))
 
 -- Timer 2
-unfoldable pub room2 : Timer2 → ℕ
+abbrev pub room2 : Timer2 → ℕ
 room2 t = roomOf (moves2 t) (left2 t)
 
 -- the least of them; none in a device that is not settled
 unfoldable pub roomAt : ℕ → Device → ℕ
 roomAt l d = cond (settledAt l d) (min (roomTimers l (d .timers)) (room2 (d .timer2))) 0
+
+-- the cycles of a round with so much room, of those that are left: one where the next is busy, otherwise the quiet run or
+-- what is left
+abbrev pub usedOf : ℕ → ℕ → ℕ
+usedOf room left = cond (eqb room 0) 1 (min room left)
 
 -- The stride: m quiet cycles at once
 
@@ -138,7 +146,7 @@ stride2 m t = withCount2 (count2 t + counts2 m t) t
 
 -- serial mode 2 ticks in every cycle; at rest the others have no ticks but those of overflows
 unfoldable pub ticks2 : ℕ → ℕ → ℕ → ℕ
-ticks2 m smod scon = cond (eqb (serialMode scon) 2) (cond (eqb smod 1) (m * 6) (m * 3)) 0
+ticks2 m smod scon = cond (eqb (serialMode scon) 2) (m * mode2Ticks smod) 0
 
 -- a tick takes RXD into the last line sample
 unfoldable pub sampled : ℕ → ℕ → ℕ → ℕ → ℕ
@@ -160,24 +168,27 @@ strideSerial m smod rxd s =
       received = s .received;
     }
 
--- running timers, the serial port in mode 2 and the cycle number move, and nothing else
-unfoldable pub strideAt : ℕ → ℕ → Device → Device
-strideAt m l d =
+-- the device with other timers, another serial port and another cycle number
+abbrev pub withParts : ℕ → Timers → Timer2 → Serial → Device → Device
+withParts n t u s d =
     record {
       kind = d .kind;
       pcon = d .pcon;
-      timers = strideTimers m l (d .timers);
-      timer2 = stride2 m (d .timer2);
-      serial = strideSerial m (bit SMOD (d .pcon)) (bit RXD l) (d .serial);
+      timers = t;
+      timer2 = u;
+      serial = s;
       interrupts = d .interrupts;
       levels = d .levels;
-      cycle = (d .cycle + m) % 2 ^ 64;
+      cycle = n;
     }
 
--- The same of a pin byte as it is given
+-- running timers, the serial port in mode 2 and the cycle number move, and nothing else
+unfoldable pub strideAt : ℕ → ℕ → Device → Device
+strideAt m l d =
+    withParts ((d .cycle + m) % 2 ^ 64) (strideTimers m l (d .timers)) (stride2 m (d .timer2))
+    (strideSerial m (bit SMOD (d .pcon)) (bit RXD l) (d .serial)) d
 
-unfoldable pub settled : ℕ → Device → Bool
-settled pins d = settledAt (pinsOf (d .kind) pins) d
+-- The same of a pin byte as it is given
 
 -- the length of the run of cycles from d on that are not busy, at most a jump's
 unfoldable pub room : ℕ → Device → ℕ

@@ -1,10 +1,12 @@
--- Step 3 keeps Timer 2's registers bytes and its due mark, and overflows at most six times, by the cases of its definition.
-use mathlib.Core.Path.{_≡_, refl}
-use mathlib.Core.Bool.{Bool, true, false, cond}
-use Prim.Native.Nat.{ℕ, _+_, _*_, _/_, _%_, _<_, _≤_}
+-- Step 3 keeps Timer 2's registers bytes and its due mark, and overflows at most six times, by the cases of its
+-- definition.
+use mathlib.Core.Path.{_≡_}
+use mathlib.Core.Bool.{cond}
+use Prim.Native.Nat.{ℕ, _<_, _≤_}
 use native.Mathlib.Nat.{le-trans}
 use native.Mathlib.Omega.{arith}
 use lib.Dec.{eqb, lit<, lit≤}
+use Rattle.laws.specs.Ranges.{Timer2Ok}
 use Rattle.laws.proofs.Choices.{chosen}
 use Rattle.laws.proofs.Bits.{set-lt, flagged-lt}
 use Rattle.laws.proofs.Counting.{countsOr-lt, overflowsOr-le, countTimes-are}
@@ -16,23 +18,11 @@ use Rattle.machine.specs.Registers.{TF2, EXF2, C/T2, TR2}
 use Rattle.machine.specs.Timers.{flagged}
 use Rattle.machine.specs.Timer2.{rcap2, count2, withT2con, withCount2, withRcap2, countTimes, baudRate, countsOf2, heedsT2EX, captures, counted2, baudStep, copied2, captureStep, timer2Step}
 
--- the registers are bytes
-pub record Bytes (t : Timer2) : Type 0 where
-  pub t2con : t .t2con < 256
-  pub rcap2l : t .rcap2l < 256
-  pub rcap2h : t .rcap2h < 256
-  pub tl2 : t .tl2 < 256
-  pub th2 : t .th2 < 256
-
--- what step 3 keeps of t
-pub record Kept (t : Timer2) (r : Timer2Counted) : Type 0 where
-  pub bytes : Bytes (r .timer2)
-  pub due2 : r .timer2 .due2 ≡ t .due2
+-- what step 3 leaves
+pub record Kept (r : Timer2Counted) : Type 0 where
+  pub timer2 : Timer2Ok (r .timer2)
   pub overflows : r .overflows ≤ 6
   pub tf2 : r .tf2 ≤ 1
-
-abbrev Byte : ℕ → Type 0
-Byte n = n < 256
 
 -- the counts of a cycle leave 16 bits, and no count overflows twice
 record Few (most : ℕ) (s : Counted16) : Type 0 where
@@ -50,45 +40,39 @@ counts-few each t h =
     chosen (λ (n : ℕ). n ≤ each) (eqb (bit C/T2 (t .t2con)) 0) _ _ (omega arith)
     (chosen (λ (n : ℕ). n ≤ each) (eqb (t .due2) 1) 1 0 h (omega arith))
 
-counted-few : (each reload : ℕ) (t : Timer2) → 1 ≤ each → reload < 65536 → Bytes t → Few each (counted2 each reload t)
+counted-few : (each reload : ℕ) (t : Timer2) → 1 ≤ each → reload < 65536 → Timer2Ok t → Few each (counted2 each reload t)
 unfolding counted2
 counted-few each reload t h r b =
     countTimes-few (countsOf2 each t) each reload (count2 t) (counts-few each t h) r (omega arith)
 
-with-count : (n : ℕ) (t : Timer2) → n < 65536 → Bytes t → Bytes (withCount2 n t)
+with-count : (n : ℕ) (t : Timer2) → n < 65536 → Timer2Ok t → Timer2Ok (withCount2 n t)
 with-count n t h b =
-    record { t2con = b .t2con; rcap2l = b .rcap2l; rcap2h = b .rcap2h; tl2 = omega arith; th2 = omega arith }
+    record { t2con = b .t2con; rcap2l = b .rcap2l; rcap2h = b .rcap2h; tl2 = omega arith; th2 = omega arith; due2 = b .due2 }
 
-with-rcap : (n : ℕ) (t : Timer2) → n < 65536 → Bytes t → Bytes (withRcap2 n t)
+with-rcap : (n : ℕ) (t : Timer2) → n < 65536 → Timer2Ok t → Timer2Ok (withRcap2 n t)
 with-rcap n t h b =
-    record { t2con = b .t2con; rcap2l = omega arith; rcap2h = omega arith; tl2 = b .tl2; th2 = b .th2 }
+    record { t2con = b .t2con; rcap2l = omega arith; rcap2h = omega arith; tl2 = b .tl2; th2 = b .th2; due2 = b .due2 }
 
-with-t2con : (n : ℕ) (t : Timer2) → n < 256 → Bytes t → Bytes (withT2con n t)
-with-t2con n t h b = record { t2con = h; rcap2l = b .rcap2l; rcap2h = b .rcap2h; tl2 = b .tl2; th2 = b .th2 }
+with-t2con : (n : ℕ) (t : Timer2) → n < 256 → Timer2Ok t → Timer2Ok (withT2con n t)
+with-t2con n t h b = record { t2con = h; rcap2l = b .rcap2l; rcap2h = b .rcap2h; tl2 = b .tl2; th2 = b .th2; due2 = b .due2 }
 
-baud-kept : (t : Timer2) (fell : ℕ) → Bytes t → Kept t (baudStep t fell)
+baud-kept : (t : Timer2) (fell : ℕ) → Timer2Ok t → Kept (baudStep t fell)
 unfolding baudStep
 baud-kept t fell b =
     let f = counted-few 6 (rcap2 t) t (lit≤ tt) (omega arith) b in
     record {
-      bytes = with-t2con _ _ (flagged-lt 8 EXF2 (cond (heedsT2EX t fell) 1 0) (t .t2con) (lit< tt) (b .t2con)) (with-count _ t (f .count) b);
-      due2 = refl;
+      timer2 = with-t2con _ _ (flagged-lt 8 EXF2 (cond (heedsT2EX t fell) 1 0) (t .t2con) (lit< tt) (b .t2con)) (with-count _ t (f .count) b);
       overflows = f .overflows;
       tf2 = lit≤ tt;
     }
 
 -- T2EX's copy
-record Copied (t u : Timer2) : Type 0 where
-  bytes : Bytes u
-  due2 : u .due2 ≡ t .due2
-
-copied : (t : Timer2) → Bytes t → Copied t (copied2 t)
+copied : (t : Timer2) → Timer2Ok t → Timer2Ok (copied2 t)
 unfolding copied2
 copied t b =
-    chosen (Copied t) (captures t) _ _ (record { bytes = with-rcap (count2 t) t (omega arith) b; due2 = refl })
-    (record { bytes = with-count (rcap2 t) t (omega arith) b; due2 = refl })
+    chosen Timer2Ok (captures t) _ _ (with-rcap (count2 t) t (omega arith) b) (with-count (rcap2 t) t (omega arith) b)
 
-capture-kept : (t : Timer2) (fell : ℕ) → Bytes t → Kept t (captureStep t fell)
+capture-kept : (t : Timer2) (fell : ℕ) → Timer2Ok t → Kept (captureStep t fell)
 unfolding captureStep
 capture-kept t fell b =
     let reload = cond (captures t) 0 (rcap2 t) in
@@ -97,23 +81,21 @@ capture-kept t fell b =
     let x = flagged TF2 (s .overflows) (t .t2con) in
     let k : x < 256 = flagged-lt 8 TF2 (s .overflows) (t .t2con) (lit< tt) (b .t2con) in
     let u = withT2con x (withCount2 (s .count) t) in
-    let ub : Bytes u = with-t2con x _ k (with-count (s .count) t (f .count) b) in
+    let ub : Timer2Ok u = with-t2con x _ k (with-count (s .count) t (f .count) b) in
     let v = withT2con (setBit EXF2 x) u in
     let c = copied v (with-t2con (setBit EXF2 x) u (set-lt 8 EXF2 x (lit< tt) k) ub) in
-    let all = chosen (Copied t) (heedsT2EX t fell) (copied2 v) u (record { bytes = c .bytes; due2 = c .due2 }) (record { bytes = ub; due2 = refl }) in
     record {
-      bytes = all .bytes;
-      due2 = all .due2;
+      timer2 = chosen Timer2Ok (heedsT2EX t fell) (copied2 v) u c ub;
       overflows = le-trans (f .overflows) (lit≤ tt);
       tf2 = f .overflows;
     }
 
-pub step-kept : (t : Timer2) (fell : ℕ) → Bytes t → Kept t (timer2Step t fell)
+pub step-kept : (t : Timer2) (fell : ℕ) → Timer2Ok t → Kept (timer2Step t fell)
 unfolding timer2Step
 step-kept t fell b =
-    chosen (Kept t) (eqb (bit TR2 (t .t2con)) 1) _ _
-    (chosen (Kept t) (baudRate t) (baudStep t fell) (captureStep t fell) (baud-kept t fell b) (capture-kept t fell b))
-    (record { bytes = b; due2 = refl; overflows = lit≤ tt; tf2 = lit≤ tt })
+    chosen Kept (eqb (bit TR2 (t .t2con)) 1) _ _
+    (chosen Kept (baudRate t) (baudStep t fell) (captureStep t fell) (baud-kept t fell b) (capture-kept t fell b))
+    (record { timer2 = b; overflows = lit≤ tt; tf2 = lit≤ tt })
 
 -- with T2CON 0, as kind 51 has it, Timer 2 stands still
 pub step-still : (t : Timer2) (fell : ℕ) → t .t2con ≡ 0 → timer2Step t fell ≡ record { timer2 = t; overflows = 0; tf2 = 0 }

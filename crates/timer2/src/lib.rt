@@ -1,7 +1,10 @@
 // Timer 2: step 3 of a cycle. Several counts in a cycle are made overflow by overflow, not one by one.
 ghost use mathlib.Core.Path.{_≡_};
 ghost use Rattle.machine.specs.Timer2 as Two;
+use laws::flagged;
 use laws::pair16;
+use laws::picked;
+use laws::picked16;
 use machine::Counted16;
 use machine::Timer2;
 use machine::Timer2Counted;
@@ -57,8 +60,8 @@ pub fn baud_rate(t: Timer2) -> bool
 pub fn counts_of2(each: u8, t: Timer2) -> u8
     ensures { λ r. ⌜ r ≡ Two.countsOf2 each t ⌝ }
 {
-    let counted = laws::picked(t.due2 == 1, 1, 0);
-    laws::picked(((t.t2con >> CT2) & 1) == 0, each, counted)
+    let counted = picked(t.due2 == 1, 1, 0);
+    picked(((t.t2con >> CT2) & 1) == 0, each, counted)
 }
 
 // T2EX falling with EXEN2 = 1.
@@ -88,7 +91,7 @@ fn baud_step(t: Timer2, fell: u8) -> Timer2Counted
 {
     let s = counted2(6, pair16(t.rcap2l, t.rcap2h), t);
     let mut u = with_count2(s.count, t);
-    u.t2con = laws::picked(heeds_t2ex(t, fell), t.t2con | (1 << EXF2), t.t2con);
+    u.t2con = flagged(EXF2, picked(heeds_t2ex(t, fell), 1, 0), t.t2con);
     Timer2Counted {
         timer2: u,
         overflows: s.overflows,
@@ -101,8 +104,8 @@ fn copied2(t: Timer2) -> Timer2
     ensures { λ r. ⌜ r ≡ Two.copied2 t ⌝ }
 {
     let capture = captures(t);
-    let low = laws::picked(capture, t.tl2, t.rcap2l);
-    let high = laws::picked(capture, t.th2, t.rcap2h);
+    let low = picked(capture, t.tl2, t.rcap2l);
+    let high = picked(capture, t.th2, t.rcap2h);
     Timer2 {
         t2con: t.t2con,
         rcap2l: low,
@@ -113,14 +116,14 @@ fn copied2(t: Timer2) -> Timer2
     }
 }
 
-// As a timer or counter: one count; an overflow sets TF2 and gives 0000 or the RCAP2 value; then T2EX sets EXF2 and copies.
+// As a timer or counter: one count; an overflow sets TF2 and gives 0000 or RCAP2; then T2EX sets EXF2 and copies.
 fn capture_step(t: Timer2, fell: u8) -> Timer2Counted
     ensures { λ r. ⌜ r ≡ Two.captureStep t fell ⌝ }
 {
-    let reload = laws::picked16(captures(t), 0, pair16(t.rcap2l, t.rcap2h));
+    let reload = picked16(captures(t), 0, pair16(t.rcap2l, t.rcap2h));
     let s = counted2(1, reload, t);
     let mut u = with_count2(s.count, t);
-    u.t2con = laws::picked(s.overflows == 1, t.t2con | (1 << TF2), t.t2con);
+    u.t2con = flagged(TF2, s.overflows, t.t2con);
     if heeds_t2ex(t, fell) {
         u.t2con = u.t2con | (1 << EXF2);
         u = copied2(u);

@@ -1,32 +1,22 @@
--- Step 2 keeps ranges: registers that are bytes stay bytes, TMOD and the due marks stay, and each overflow is 0 or 1, by cases on what counts.
-use mathlib.Core.Path.{_≡_, refl}
-use mathlib.Core.Bool.{Bool, true, false, cond}
+-- Step 2 keeps ranges: registers that are bytes stay bytes, TMOD and the due marks stay, and each overflow is 0 or 1,
+-- by cases on what counts.
+use mathlib.Core.Bool.{cond}
 use Prim.Native.Nat.{ℕ, _<_, _≤_}
 use native.Mathlib.Omega.{arith}
 use lib.Dec.{eqb}
+use Rattle.laws.specs.Ranges.{TimersOk}
 use Rattle.laws.proofs.Choices.{chosen}
 use Rattle.laws.proofs.Bits.{flagged-lt}
-use Rattle.machine.specs.Counting.{overflow, count13, count16, reload8, count8, hold}
+use Rattle.laws.proofs.Counting.{next-lt, overflow-le, nextOr-lt}
+use Rattle.machine.specs.Counting.{pair13, pair16, count13, count16, reload8, count8, hold}
 use Rattle.machine.specs.Timers.{timer0Mode, timer1Mode, countIn, flagged, counts0, counts1, countsHigh0, pair0, high0, highOverflow0, pair1, timerFlags, timersStep}
 use Rattle.machine.specs.declared.Count.{Count}
 use Rattle.machine.specs.declared.Timers.{Timers}
 use Rattle.machine.specs.declared.TimersCounted.{TimersCounted}
 
--- the registers of Timers 0 and 1 are bytes
-pub record Bytes (t : Timers) : Type 0 where
-  pub tcon : t .tcon < 256
-  pub tmod : t .tmod < 256
-  pub tl0 : t .tl0 < 256
-  pub tl1 : t .tl1 < 256
-  pub th0 : t .th0 < 256
-  pub th1 : t .th1 < 256
-
--- what step 2 keeps of the timers t
-pub record Kept (t : Timers) (r : TimersCounted) : Type 0 where
-  pub bytes : Bytes (r .timers)
-  pub tmod : r .timers .tmod ≡ t .tmod
-  pub due0 : r .timers .due0 ≡ t .due0
-  pub due1 : r .timers .due1 ≡ t .due1
+-- what step 2 leaves
+pub record Kept (r : TimersCounted) : Type 0 where
+  pub timers : TimersOk (r .timers)
   pub low : r .overflow0 ≤ 1
   pub high : r .«overflow_th0» ≤ 1
   pub one : r .overflow1 ≤ 1
@@ -44,20 +34,19 @@ module _ (tl th : ℕ) (l : tl < 256) (h : th < 256) where
 
   counting8 : Counted (count8 tl th)
   unfolding count8
-  counting8 = record { tl = omega arith; th = h; overflow = omega arith }
+  counting8 = record { tl = next-lt 8 tl; th = h; overflow = overflow-le 8 tl l }
 
   counting13 : Counted (count13 tl th)
   unfolding count13
-  counting13 = record { tl = omega arith; th = omega arith; overflow = omega arith }
+  counting13 = record { tl = omega arith; th = omega arith; overflow = overflow-le 13 (pair13 tl th) (omega arith) }
 
   counting16 : Counted (count16 tl th)
   unfolding count16
-  counting16 = record { tl = omega arith; th = omega arith; overflow = omega arith }
+  counting16 = record { tl = omega arith; th = omega arith; overflow = overflow-le 16 (pair16 tl th) (omega arith) }
 
   reloading : Counted (reload8 tl th)
   unfolding reload8
-  reloading =
-      record { tl = chosen (λ (n : ℕ). n < 256) (eqb (overflow 8 tl) 1) _ _ h (omega arith); th = h; overflow = omega arith }
+  reloading = record { tl = nextOr-lt 8 th tl h; th = h; overflow = overflow-le 8 tl l }
 
   counting : (mode : ℕ) (three : Count) → Counted three → Counted (countIn mode three tl th)
   unfolding countIn
@@ -65,7 +54,7 @@ module _ (tl th : ℕ) (l : tl < 256) (h : th < 256) where
       chosen Counted (eqb mode 0) _ _ counting13
       (chosen Counted (eqb mode 1) _ _ counting16 (chosen Counted (eqb mode 2) _ _ reloading p))
 
-module _ (t : Timers) (b : Bytes t) where
+module _ (t : Timers) (b : TimersOk t) where
   pair0-counted : (pins : ℕ) → Counted (pair0 t pins)
   unfolding pair0
   pair0-counted pins =
@@ -85,11 +74,11 @@ module _ (t : Timers) (b : Bytes t) where
 
   high-below : (th : ℕ) → th < 256 → high0 t th < 256
   unfolding high0
-  high-below th h = chosen (λ (n : ℕ). n < 256) (countsHigh0 t) _ _ (omega arith) h
+  high-below th h = chosen (λ (n : ℕ). n < 256) (countsHigh0 t) _ _ (next-lt 8 th) h
 
   high-overflow : (th : ℕ) → th < 256 → highOverflow0 t th ≤ 1
   unfolding highOverflow0
-  high-overflow th h = chosen (λ (n : ℕ). n ≤ 1) (countsHigh0 t) _ _ (omega arith) (omega arith)
+  high-overflow th h = chosen (λ (n : ℕ). n ≤ 1) (countsHigh0 t) _ _ (overflow-le 8 th h) (omega arith)
 
   flags-below : (low high one : ℕ) → timerFlags t low high one < 256
   unfolding timerFlags
@@ -97,13 +86,13 @@ module _ (t : Timers) (b : Bytes t) where
       flagged-lt 8 7 (cond (eqb (timer0Mode t) 3) high one) (flagged 5 low (t .tcon)) (omega arith)
       (flagged-lt 8 5 low (t .tcon) (omega arith) (b .tcon))
 
-  pub step-kept : (pins : ℕ) → Kept t (timersStep t pins)
+  pub step-kept : (pins : ℕ) → Kept (timersStep t pins)
   unfolding timersStep
   step-kept pins =
       let low = pair0-counted pins in
       let one = pair1-counted pins in
       record {
-        bytes =
+        timers =
             record {
               tcon = flags-below (pair0 t pins .overflow) (highOverflow0 t (pair0 t pins .th)) (pair1 t pins .overflow);
               tmod = b .tmod;
@@ -111,10 +100,9 @@ module _ (t : Timers) (b : Bytes t) where
               tl1 = one .tl;
               th0 = high-below (pair0 t pins .th) (low .th);
               th1 = one .th;
+              due0 = b .due0;
+              due1 = b .due1;
             };
-        tmod = refl;
-        due0 = refl;
-        due1 = refl;
         low = low .overflow;
         high = high-overflow (pair0 t pins .th) (low .th);
         one = one .overflow;

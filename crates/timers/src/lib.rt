@@ -1,8 +1,12 @@
 // Step 2 of a cycle: Timers 0 and 1.
 ghost use mathlib.Core.Path.{_≡_};
-ghost use Prim.Native.Nat.{_<_};
+ghost use mathlib.Core.Bool.{cond};
 ghost use Rattle.machine.specs.Counting as Counting;
 ghost use Rattle.machine.specs.Timers as Step;
+use laws::flagged;
+use laws::pair13;
+use laws::pair16;
+use laws::picked;
 use machine::Count;
 use machine::Timers;
 use machine::TimersCounted;
@@ -23,14 +27,14 @@ use machine::places::TR1;
 fn overflow8(n: u8) -> u8
     ensures { λ r. ⌜ r ≡ Counting.overflow 8 n ⌝ }
 {
-    laws::picked(std::num::wrapping_add_u8(n, 1) == 0, 1, 0)
+    picked(std::num::wrapping_add_u8(n, 1) == 0, 1, 0)
 }
 
 // Mode 0: 13 bits, TH and the low 5 of TL; the top 3 of TL are kept.
 fn count13(tl: u8, th: u8) -> Count
     ensures { λ r. ⌜ r ≡ Counting.count13 tl th ⌝ }
 {
-    let n = (((th as u16) << 5) | ((tl & 0x1f) as u16)) + 1;
+    let n = pair13(tl, th) + 1;
     Count {
         tl: (tl & 0xe0) | ((n & 0x1f) as u8),
         th: ((n >> 5) & 0xff) as u8,
@@ -42,11 +46,11 @@ fn count13(tl: u8, th: u8) -> Count
 fn count16(tl: u8, th: u8) -> Count
     ensures { λ r. ⌜ r ≡ Counting.count16 tl th ⌝ }
 {
-    let n = std::num::wrapping_add_u16(((th as u16) << 8) | (tl as u16), 1);
+    let n = std::num::wrapping_add_u16(pair16(tl, th), 1);
     Count {
         tl: (n & 0xff) as u8,
         th: (n >> 8) as u8,
-        overflow: laws::picked(n == 0, 1, 0),
+        overflow: picked(n == 0, 1, 0),
     }
 }
 
@@ -56,7 +60,7 @@ fn reload8(tl: u8, th: u8) -> Count
 {
     let over = overflow8(tl);
     Count {
-        tl: laws::picked(over == 1, th, std::num::wrapping_add_u8(tl, 1)),
+        tl: picked(over == 1, th, std::num::wrapping_add_u8(tl, 1)),
         th: th,
         overflow: over,
     }
@@ -110,6 +114,20 @@ pub fn clocked(counter: u8, due: u8) -> bool
     (counter == 0) | (due == 1)
 }
 
+// Timer 0's mode.
+pub fn timer0_mode(t: Timers) -> u8
+    ensures { λ r. ⌜ r ≡ Step.timer0Mode t ⌝ }
+{
+    (t.tmod >> MODE0) & 3
+}
+
+// Timer 1's mode.
+pub fn timer1_mode(t: Timers) -> u8
+    ensures { λ r. ⌜ r ≡ Step.timer1Mode t ⌝ }
+{
+    (t.tmod >> MODE1) & 3
+}
+
 // Timer 0 counts in this cycle.
 pub fn counts0(t: Timers, pins: u8) -> bool
     ensures { λ r. ⌜ r ≡ Step.counts0 t pins ⌝ }
@@ -126,7 +144,7 @@ pub fn counts0(t: Timers, pins: u8) -> bool
 pub fn counts1(t: Timers, pins: u8) -> bool
     ensures { λ r. ⌜ r ≡ Step.counts1 t pins ⌝ }
 {
-    ((((t.tmod >> MODE0) & 3) == 3)
+    ((timer0_mode(t) == 3)
         | enabled(
             (t.tcon >> TR1) & 1,
             (t.tmod >> GATE1) & 1,
@@ -139,58 +157,65 @@ pub fn counts1(t: Timers, pins: u8) -> bool
 pub fn counts_high0(t: Timers) -> bool
     ensures { λ r. ⌜ r ≡ Step.countsHigh0 t ⌝ }
 {
-    (((t.tmod >> MODE0) & 3) == 3) & (((t.tcon >> TR1) & 1) == 1)
+    (timer0_mode(t) == 3) & (((t.tcon >> TR1) & 1) == 1)
 }
 
-// Timer 0's pair after this cycle's count.
+// A timer's pair after this cycle: after a count in its mode, or as it was.
+fn pair_after(counts: bool, mode: u8, three: Count, tl: u8, th: u8) -> Count
+    ensures { λ r. ⌜ r ≡ cond counts (Step.countIn mode three tl th) (Counting.hold tl th) ⌝ }
+{
+    if counts {
+        count_in(mode, three, tl, th)
+    } else {
+        hold(tl, th)
+    }
+}
+
+// Timer 0's pair after this cycle's count; in mode 3 TL0 is 8 bits.
 fn pair0(t: Timers, pins: u8) -> Count
     ensures { λ r. ⌜ r ≡ Step.pair0 t pins ⌝ }
 {
-    if counts0(t, pins) {
-        count_in((t.tmod >> MODE0) & 3, count8(t.tl0, t.th0), t.tl0, t.th0)
-    } else {
-        hold(t.tl0, t.th0)
-    }
+    pair_after(
+        counts0(t, pins),
+        timer0_mode(t),
+        count8(t.tl0, t.th0),
+        t.tl0,
+        t.th0,
+    )
 }
 
 // TH0 after its own count in mode 3.
 fn high0(t: Timers, th: u8) -> u8
     ensures { λ r. ⌜ r ≡ Step.high0 t th ⌝ }
 {
-    laws::picked(counts_high0(t), std::num::wrapping_add_u8(th, 1), th)
+    picked(counts_high0(t), std::num::wrapping_add_u8(th, 1), th)
 }
 
 // 1 where that count overflows.
 fn high_overflow0(t: Timers, th: u8) -> u8
     ensures { λ r. ⌜ r ≡ Step.highOverflow0 t th ⌝ }
 {
-    laws::picked(counts_high0(t), overflow8(th), 0)
+    picked(counts_high0(t), overflow8(th), 0)
 }
 
-// Timer 1's pair after this cycle's count.
+// Timer 1's pair after this cycle's count; in mode 3 it holds.
 fn pair1(t: Timers, pins: u8) -> Count
     ensures { λ r. ⌜ r ≡ Step.pair1 t pins ⌝ }
 {
-    if counts1(t, pins) {
-        count_in((t.tmod >> MODE1) & 3, hold(t.tl1, t.th1), t.tl1, t.th1)
-    } else {
-        hold(t.tl1, t.th1)
-    }
-}
-
-// An overflow sets the flag at bit k.
-fn flagged(k: u8, overflow: u8, x: u8) -> u8
-    requires { ⌜ k < 8 ⌝ }
-    ensures { λ r. ⌜ r ≡ Step.flagged k overflow x ⌝ }
-{
-    laws::picked(overflow == 1, x | (1 << k), x)
+    pair_after(
+        counts1(t, pins),
+        timer1_mode(t),
+        hold(t.tl1, t.th1),
+        t.tl1,
+        t.th1,
+    )
 }
 
 // TCON after the overflows of Timer 0, of TH0 in mode 3 and of Timer 1; with Timer 0 in mode 3 Timer 1 sets no flag.
 fn timer_flags(t: Timers, low: u8, high: u8, one: u8) -> u8
     ensures { λ r. ⌜ r ≡ Step.timerFlags t low high one ⌝ }
 {
-    let over = laws::picked(((t.tmod >> MODE0) & 3) == 3, high, one);
+    let over = picked(timer0_mode(t) == 3, high, one);
     flagged(TF1, over, flagged(TF0, low, t.tcon))
 }
 

@@ -112,17 +112,6 @@ fn single_cycles(part: u64) {
                 }
                 black_box(device);
             }),
-            Contender::new("by value (c51_cycle_value)", || {
-                let mut device = device;
-                for _ in 0..rounds {
-                    for &pins in &pins {
-                        let a = raw::c51_cycle_value(device, pins);
-                        black_box((a.code, a.line));
-                        device = a.device;
-                    }
-                }
-                black_box(device);
-            }),
             Contender::new("plain model", || {
                 let mut model = model;
                 for _ in 0..rounds {
@@ -135,7 +124,7 @@ fn single_cycles(part: u64) {
         ];
         let times = race(RUNS, &mut contenders);
         println!("\nA single cycle, {what}:");
-        lines(&contenders, &times, cycles, ("ns", 1e9), 2);
+        lines(&contenders, &times, cycles, ("ns", 1e9), 1);
     }
 }
 
@@ -155,9 +144,6 @@ fn idle_station(part: u64) -> f64 {
             Chip::jump(&mut device, PINS_HIGH, cycles);
             black_box(device);
         }),
-        Contender::new("jump by value (c51_jump_value)", || {
-            black_box(raw::c51_jump_value(black_box(device), PINS_HIGH, cycles));
-        }),
         Contender::new("plain model, stepping", || {
             let mut model = black_box(model);
             model.jump(PINS_HIGH, cycles).expect("a jump");
@@ -171,9 +157,9 @@ fn idle_station(part: u64) -> f64 {
     ];
     let times = race(RUNS, &mut contenders);
     println!("\nThe idle station, {cycles} cycles in {rounds} rounds, a million cycles:");
-    lines(&contenders, &times, cycles, ("ms", 1e9), 3);
+    lines(&contenders, &times, cycles, ("ms", 1e9), 2);
     println!("The same, a round:");
-    lines(&contenders, &times, rounds, ("ns", 1e9), 2);
+    lines(&contenders, &times, rounds, ("ns", 1e9), 1);
     let looks = CALLS / part;
     let time = race(RUNS, &mut [Contender::new("look ahead (c51_look)", || look_ahead(device, cycles, looks))])[0];
     println!("A look ahead over all of them, in which no flag rises: {:.1} ns", time / looks as f64 * 1e9);

@@ -1,7 +1,7 @@
 //! The proved peripherals of the 80C51 and 80C52 for Rust: a thin wrapper over the C library.
 //!
-//! A [`Device`] is the plain record of `c51.h`, with public fields. Any content is answered: a record that is no device's is refused as
-//! [`Refusal::BadRecord`]. A refused call leaves the device as it was.
+//! A [`Device`] is the plain record of `c51.h`, with public fields. Any content is answered: a record that is no
+//! device's is refused as [`Refusal::BadRecord`]. A refused call leaves the device as it was.
 //!
 //! ```
 //! use c51::{address, Device, PINS_HIGH};
@@ -20,6 +20,7 @@
 
 pub mod raw;
 
+pub use raw::{AnswerRow, CallRow, ANSWER_WORDS, CALL_WORDS, NONE};
 pub use raw::{Device, Interrupts, Receiver, Sender, Serial, Timer2, Timers};
 
 /// All pins at 1.
@@ -70,6 +71,20 @@ pub mod flag {
     pub const RI: u8 = 0x01;
     pub const TF2: u8 = 0x80;
     pub const EXF2: u8 = 0x40;
+}
+
+/// Numbers of the calls in a list; every other number is a return.
+pub mod call {
+    pub const RESET: u64 = 0;
+    pub const READ: u64 = 1;
+    pub const WRITE: u64 = 2;
+    pub const CYCLE: u64 = 3;
+    pub const JUMP: u64 = 4;
+    pub const TRACE: u64 = 5;
+    pub const LOOK: u64 = 6;
+    pub const OFFER: u64 = 7;
+    pub const TAKE: u64 = 8;
+    pub const RETURN: u64 = 9;
 }
 
 /// Why a call was refused; the number is the library's code.
@@ -179,9 +194,7 @@ impl Device {
 
     /// Runs a trace: in each entry the pin byte on top and the cycles in the low 24 bits.
     pub fn trace(&mut self, entries: &[u32]) -> Result<(), Refusal> {
-        let a = raw::trace(*self, entries);
-        *self = answer(a.code, a.device)?;
-        Ok(())
+        answer(raw::trace(self, entries), ())
     }
 
     /// The first of the next n cycles in which a flag rises under this pin byte.
@@ -208,8 +221,39 @@ impl Device {
     /// Return from interrupt.
     #[inline]
     pub fn return_from_interrupt(&mut self) -> Result<(), Refusal> {
-        let a = raw::c51_return(*self);
-        *self = answer(a.code, a.device)?;
-        Ok(())
+        answer(raw::c51_return(self), ())
+    }
+
+    /// Runs a list of calls, each on the device as the one before left it, and writes down the answer to each: the
+    /// function that the theorem about lists is proved of. As many run as there are rows of both; the rows of answers
+    /// past them stay as they were.
+    ///
+    /// The arguments of a call are those of the method, in its order, but of a trace the start and the end of its part
+    /// of `entries`. A refused call that gives a number gives 0. It leaves the device, but a refused reset leaves the
+    /// record of zeros.
+    ///
+    /// ```
+    /// use c51::{address, call, Device, NONE, PINS_HIGH};
+    ///
+    /// let calls = [
+    ///     [call::RESET, 52, 0],
+    ///     [call::WRITE, address::TCON.into(), 0x10], // Timer 0 runs, in mode 0
+    ///     [call::TRACE, 0, 2],                       // both entries
+    ///     [call::LOOK, PINS_HIGH.into(), 100],
+    ///     [call::LOOK, PINS_HIGH.into(), 10_000],
+    ///     [call::TAKE, 0, 0],
+    /// ];
+    /// let entries = [0x7F00_0001, 0x7E00_0001];
+    /// let mut answers = [[0; 3]; 6];
+    /// let mut device = Device::default();
+    /// device.replay(&calls, &entries, &mut answers);
+    /// assert_eq!(device.cycle, 2);
+    /// assert_eq!(answers[..3], [[0, 0, 0]; 3]); // passed
+    /// assert_eq!(answers[3], [0, NONE, 0]); // no flag rises in 100 cycles
+    /// assert_eq!(answers[4], [0, 1, 8_190]); // TF0 rises in cycle 8,190
+    /// assert_eq!(answers[5], [6, 1, 0]); // refused: nothing is offered
+    /// ```
+    pub fn replay(&mut self, calls: &[CallRow], entries: &[u32], answers: &mut [AnswerRow]) {
+        raw::replay(self, calls.as_flattened(), entries, answers.as_flattened_mut());
     }
 }

@@ -1,6 +1,7 @@
-//! The library as `c51.h` has it: the record field by field, the answers, and the functions.
+//! The library as `c51.h` has it: the record field by field, the answers, the rows of a list, and the functions.
 //!
-//! The functions are safe to call with any content of the record: each is proved for all inputs, and none keeps a reference.
+//! The functions are safe to call with any content of the record: each is proved for all inputs, and none keeps a
+//! reference.
 
 /// Timers 0 and 1: registers and due marks.
 #[repr(C)]
@@ -85,7 +86,7 @@ pub struct Device {
     pub cycle: u64,
 }
 
-/// A code and a device.
+/// A reset.
 #[repr(C)]
 #[derive(Clone, Copy, PartialEq, Eq, Debug)]
 pub struct Answer {
@@ -93,21 +94,12 @@ pub struct Answer {
     pub device: Device,
 }
 
-/// A cycle in place.
+/// A cycle.
 #[repr(C)]
 #[derive(Clone, Copy, PartialEq, Eq, Debug)]
 pub struct LineAnswer {
     pub code: u8,
     pub line: u8,
-}
-
-/// A cycle by value.
-#[repr(C)]
-#[derive(Clone, Copy, PartialEq, Eq, Debug)]
-pub struct CycleAnswer {
-    pub code: u8,
-    pub line: u8,
-    pub device: Device,
 }
 
 /// A take.
@@ -144,25 +136,49 @@ pub struct LookAnswer {
     pub at: u64,
 }
 
+/// The words of a call in a list, and of its answer.
+pub const CALL_WORDS: usize = 3;
+pub const ANSWER_WORDS: usize = 3;
+/// In place of how many numbers an answer gives: an offer or a look ahead that passed and found none.
+pub const NONE: u64 = u64::MAX;
+
+/// A call in a list: its number (see [`call`](crate::call)), and two arguments.
+pub type CallRow = [u64; CALL_WORDS];
+/// An answer in a list: its code, how many numbers it gives or [`NONE`], and the number or 0.
+pub type AnswerRow = [u64; ANSWER_WORDS];
+
 // Sound as safe functions: the library is proved to answer every content, and a reference is only used during the call.
 unsafe extern "C" {
     pub safe fn c51_write(device: &mut Device, address: u8, value: u8) -> u8;
     pub safe fn c51_cycle(device: &mut Device, pins: u8) -> LineAnswer;
     pub safe fn c51_jump(device: &mut Device, pins: u8, n: u64) -> u8;
     pub safe fn c51_take(device: &mut Device) -> VectorAnswer;
+    pub safe fn c51_return(device: &mut Device) -> u8;
     pub safe fn c51_reset(kind: u8) -> Answer;
     pub safe fn c51_read(device: Device, address: u8) -> ValueAnswer;
     pub safe fn c51_offer(device: Device) -> OfferAnswer;
     pub safe fn c51_look(device: Device, pins: u8, n: u64) -> LookAnswer;
-    pub safe fn c51_return(device: Device) -> Answer;
     pub safe fn c51_accepts(device: Device) -> u8;
-    pub safe fn c51_cycle_value(device: Device, pins: u8) -> CycleAnswer;
-    pub safe fn c51_jump_value(device: Device, pins: u8, n: u64) -> Answer;
-    fn c51_trace(device: Device, entries: *const u32, count: usize) -> Answer;
+    fn c51_trace(device: &mut Device, entries: *const u32, count: usize) -> u8;
+    fn c51_replay(
+        device: &mut Device,
+        calls: *const u64,
+        calls_length: usize,
+        entries: *const u32,
+        entries_length: usize,
+        answers: *mut u64,
+        answers_length: usize,
+    );
 }
 
 /// `c51_trace` over a slice.
-pub fn trace(device: Device, entries: &[u32]) -> Answer {
+pub fn trace(device: &mut Device, entries: &[u32]) -> u8 {
     // The pointer and the length are those of one slice.
     unsafe { c51_trace(device, entries.as_ptr(), entries.len()) }
+}
+
+/// `c51_replay` over slices of words. As many calls run as both `calls` and `answers` have whole rows for.
+pub fn replay(device: &mut Device, calls: &[u64], entries: &[u32], answers: &mut [u64]) {
+    // Each pointer and the length after it are those of one slice.
+    unsafe { c51_replay(device, calls.as_ptr(), calls.len(), entries.as_ptr(), entries.len(), answers.as_mut_ptr(), answers.len()) }
 }

@@ -1,6 +1,7 @@
-/* Every call of the library once from C, with an answer that the bench cards and the table of refusals give. */
+/* Every call of the library once from C, with an answer that the bench cards and the table of refusals give; and lists of calls. */
 #include <c51.h>
 #include <stdio.h>
+#include <string.h>
 
 static int failures = 0;
 
@@ -11,7 +12,19 @@ static void check(int holds, const char *what) {
     }
 }
 
-int main(void) {
+/* Whether two records are the same in every field; the padding of a struct may hold anything. */
+static int same(const c51_device *a, const c51_device *b) {
+    const c51_sender *as = &a->serial.send, *bs = &b->serial.send;
+    const c51_receiver *ar = &a->serial.receive, *br = &b->serial.receive;
+    return a->kind == b->kind && a->pcon == b->pcon && a->cycle == b->cycle && memcmp(a->levels, b->levels, sizeof a->levels) == 0 &&
+           memcmp(&a->timers, &b->timers, sizeof a->timers) == 0 && memcmp(&a->timer2, &b->timer2, sizeof a->timer2) == 0 &&
+           memcmp(&a->interrupts, &b->interrupts, sizeof a->interrupts) == 0 && a->serial.scon == b->serial.scon &&
+           a->serial.half == b->serial.half && a->serial.received == b->serial.received && as->position == bs->position &&
+           as->value == bs->value && as->counter == bs->counter && ar->position == br->position && ar->value == br->value &&
+           ar->counter == br->counter && ar->votes == br->votes && ar->sample == br->sample;
+}
+
+static void calls(void) {
     c51_answer reset = c51_reset(52);
     check(reset.code == C51_PASSED && reset.device.kind == 52 && reset.device.levels[6] == 1, "reset");
     check(c51_reset(53).code == C51_BAD_KIND && c51_reset(53).device.kind == 0, "reset refused");
@@ -34,28 +47,97 @@ int main(void) {
     c51_line_answer line = c51_cycle(&device, C51_PINS_HIGH);
     check(line.code == C51_PASSED && line.line == 1 && device.cycle == 1, "cycle");
     check(c51_cycle(&device, 0x80).code == C51_BAD_PINS && device.cycle == 1, "cycle refused");
-    c51_cycle_answer cycled = c51_cycle_value(device, C51_PINS_HIGH);
-    check(cycled.code == C51_PASSED && cycled.line == 1 && cycled.device.cycle == 2 && device.cycle == 1, "cycle by value");
     check(c51_offer(device).offered == 0, "nothing offered");
     check(c51_take(&device).code == C51_NOTHING_OFFERED, "take refused");
-    c51_answer jumped = c51_jump_value(device, C51_PINS_HIGH, 2);
-    check(jumped.code == C51_PASSED && jumped.device.cycle == 3, "jump by value");
     check(c51_jump(&device, C51_PINS_HIGH, 2) == C51_PASSED && device.cycle == 3, "jump");
 
     c51_offer_answer offer = c51_offer(device);
     check(offer.code == C51_PASSED && offer.offered == 1 && offer.vector == 0x0B, "offer");
     c51_vector_answer take = c51_take(&device);
     check(take.code == C51_PASSED && take.vector == 0x0B && device.interrupts.low == 1, "take");
-    c51_answer returned = c51_return(device);
-    check(returned.code == C51_PASSED && returned.device.interrupts.low == 0, "return");
-    check(c51_return(returned.device).code == C51_NOTHING_IN_SERVICE, "return refused");
+    check(c51_return(&device) == C51_PASSED && device.interrupts.low == 0, "return");
+    c51_device before = device;
+    check(c51_return(&device) == C51_NOTHING_IN_SERVICE && same(&device, &before), "return refused");
 
-    const uint32_t trace[2] = {0x7F000064u, 0x7E000001u};
-    c51_answer traced = c51_trace(returned.device, trace, 2);
-    check(traced.code == C51_PASSED && traced.device.cycle == 104 && traced.device.levels[0] == 0, "trace");
-    const uint32_t empty[1] = {0x7F000000u};
-    check(c51_trace(returned.device, empty, 1).code == C51_EMPTY_ENTRY, "trace refused");
+    const uint32_t trace[3] = {0x7F000064u, 0x7E000001u, 0x7F000000u};
+    check(c51_trace(&device, trace, 0) == C51_PASSED && same(&device, &before), "trace of no entries");
+    check(c51_trace(&device, trace, 3) == C51_EMPTY_ENTRY && same(&device, &before), "trace refused");
+    check(c51_trace(&device, trace, 2) == C51_PASSED && device.cycle == 104 && device.levels[0] == 0, "trace");
+}
 
+/* A call of a list, and its answer. */
+typedef struct {
+    uint64_t call[C51_CALL_WORDS];
+    uint64_t answer[C51_ANSWER_WORDS];
+} called;
+
+/* The interrupt of Timer 0 once more, from a record of zeros, with every form of an answer. An argument counts by its low 8 bits. */
+static const called interrupt[] = {
+    {{C51_CALL_OFFER, 0, 0}, {C51_BAD_RECORD, 1, 0}},
+    {{C51_CALL_RESET, 0x100 + 52, 0}, {C51_PASSED, 0, 0}},
+    {{C51_CALL_WRITE, C51_TMOD, 0x01}, {C51_PASSED, 0, 0}},
+    {{C51_CALL_WRITE, C51_TH0, 0xFF}, {C51_PASSED, 0, 0}},
+    {{C51_CALL_WRITE, C51_TL0, 0x100 + 0xFE}, {C51_PASSED, 0, 0}},
+    {{C51_CALL_WRITE, 0x100 + C51_IE, 0x82}, {C51_PASSED, 0, 0}},
+    {{C51_CALL_WRITE, C51_TCON, 0x10}, {C51_PASSED, 0, 0}},
+    {{C51_CALL_WRITE, 0, 0}, {C51_BAD_ADDRESS, 0, 0}},
+    {{C51_CALL_READ, C51_TL0, 0}, {C51_PASSED, 1, 0xFE}},
+    {{C51_CALL_READ, 0, 0}, {C51_BAD_ADDRESS, 1, 0}},
+    {{C51_CALL_LOOK, C51_PINS_HIGH, 1}, {C51_PASSED, C51_NONE, 0}},
+    {{C51_CALL_LOOK, C51_PINS_HIGH, C51_MAX_CYCLES}, {C51_PASSED, 1, 2}},
+    {{C51_CALL_LOOK, C51_PINS_HIGH, C51_MAX_CYCLES + 1}, {C51_TOO_LONG, 1, 0}},
+    {{C51_CALL_CYCLE, C51_PINS_HIGH, 0}, {C51_PASSED, 1, 1}},
+    {{C51_CALL_CYCLE, 0x80, 0}, {C51_BAD_PINS, 1, 0}},
+    {{C51_CALL_JUMP, C51_PINS_HIGH, C51_MAX_CYCLES + 1}, {C51_TOO_LONG, 0, 0}},
+    {{C51_CALL_JUMP, C51_PINS_HIGH, 1}, {C51_PASSED, 0, 0}},
+    {{C51_CALL_OFFER, 0, 0}, {C51_PASSED, C51_NONE, 0}},
+    {{C51_CALL_TRACE, 0, 2}, {C51_EMPTY_ENTRY, 0, 0}},
+    {{C51_CALL_TRACE, 1, 2}, {C51_PASSED, 0, 0}},
+    {{C51_CALL_TRACE, 1, 0}, {C51_PASSED, 0, 0}}, /* not in order: empty */
+    {{C51_CALL_TRACE, 0, 3}, {C51_PASSED, 0, 0}}, /* not in range: empty */
+    {{C51_CALL_OFFER, 0, 0}, {C51_PASSED, 1, 0x0B}},
+    {{C51_CALL_TAKE, 0, 0}, {C51_PASSED, 1, 0x0B}},
+    {{C51_CALL_TAKE, 0, 0}, {C51_NOTHING_OFFERED, 1, 0}},
+    {{C51_CALL_RETURN, 0, 0}, {C51_PASSED, 0, 0}},
+    {{C51_CALL_RETURN + 1, 0, 0}, {C51_NOTHING_IN_SERVICE, 0, 0}},
+};
+enum { CALLS = sizeof interrupt / sizeof *interrupt };
+
+static void lists(void) {
+    const uint32_t entries[2] = {0x7F000000u, 0x7F000001u};
+    uint64_t calls[CALLS * C51_CALL_WORDS], answers[CALLS * C51_ANSWER_WORDS];
+    c51_device zeros = c51_reset(0).device, device = zeros;
+    size_t i;
+    char what[40];
+    for (i = 0; i < CALLS; i++) memcpy(calls + i * C51_CALL_WORDS, interrupt[i].call, sizeof interrupt[i].call);
+    c51_replay(&device, calls, CALLS * C51_CALL_WORDS, entries, 2, answers, CALLS * C51_ANSWER_WORDS);
+    for (i = 0; i < CALLS; i++) {
+        sprintf(what, "call %u of the list", (unsigned)i);
+        check(memcmp(answers + i * C51_ANSWER_WORDS, interrupt[i].answer, sizeof interrupt[i].answer) == 0, what);
+    }
+    check(device.kind == 52 && device.cycle == 3 && device.interrupts.low == 0, "the device after the list");
+
+    /* As many calls as there are whole rows of both; what lies past them stays. */
+    for (i = 0; i < 2 * C51_ANSWER_WORDS; i++) answers[i] = 7;
+    device = zeros;
+    c51_replay(&device, calls, 2 * C51_CALL_WORDS, entries, 2, answers, 2 * C51_ANSWER_WORDS - 1);
+    check(same(&device, &zeros) && answers[0] == C51_BAD_RECORD, "one whole row of answers");
+    c51_replay(&device, calls, 2 * C51_CALL_WORDS - 1, entries, 2, answers, 2 * C51_ANSWER_WORDS);
+    check(same(&device, &zeros) && answers[0] == C51_BAD_RECORD, "one whole row of calls");
+    for (i = C51_ANSWER_WORDS; i < 2 * C51_ANSWER_WORDS; i++) check(answers[i] == 7, "past the last answer");
+    c51_replay(&device, calls, 0, entries, 0, answers, 0);
+    check(same(&device, &zeros) && answers[0] == C51_BAD_RECORD, "an empty list");
+    c51_replay(&device, calls + C51_CALL_WORDS, C51_CALL_WORDS, entries, 0, answers, C51_ANSWER_WORDS);
+    check(device.kind == 52 && answers[0] == C51_PASSED, "a list without entries");
+    calls[1] = 53;
+    calls[0] = C51_CALL_RESET;
+    c51_replay(&device, calls, C51_CALL_WORDS, entries, 0, answers, C51_ANSWER_WORDS);
+    check(device.kind == 0 && answers[0] == C51_BAD_KIND, "a refused reset leaves zeros");
+}
+
+int main(void) {
+    calls();
+    lists();
     if (failures == 0) printf("passed\n");
     return failures != 0;
 }

@@ -1,5 +1,8 @@
-//! The layout of the record and of the answers: size and each offset, in Rust and in a C program that includes `c51.h`.
+//! The layout of the record and of the answers, size and each offset, and the constants: in Rust and in a C program
+//! that includes `c51.h`.
 use c51::raw::*;
+use c51::{address, call, pin, Refusal, MAX_CYCLES, MAX_TRACE, PINS_HIGH};
+use std::collections::BTreeSet;
 use std::mem::{offset_of, size_of};
 use std::path::{Path, PathBuf};
 use std::process::Command;
@@ -46,12 +49,51 @@ fn places() -> Vec<Place> {
         "c51_interrupts" Interrupts 6 { ie 0, ip 1, seen 2, polled 3, low 4, high 5 }
         "c51_answer" Answer 64 { code 0, device 8 }
         "c51_line_answer" LineAnswer 2 { code 0, line 1 }
-        "c51_cycle_answer" CycleAnswer 64 { code 0, line 1, device 8 }
         "c51_vector_answer" VectorAnswer 2 { code 0, vector 1 }
         "c51_value_answer" ValueAnswer 2 { code 0, value 1 }
         "c51_offer_answer" OfferAnswer 3 { code 0, offered 1, vector 2 }
         "c51_look_answer" LookAnswer 16 { code 0, found 1, at 8 }
     }
+}
+
+/// A constant: its C name, and its number in Rust.
+struct Constant {
+    c: String,
+    rust: u64,
+}
+
+macro_rules! constants {
+    ($($prefix:literal $module:ident { $($name:ident),* })*) => {
+        vec![$($(Constant { c: format!("{}{}", $prefix, stringify!($name)), rust: u64::from($module::$name) },)*)*]
+    };
+}
+
+fn constants() -> Vec<Constant> {
+    let mut constants = constants! {
+        "C51_PIN_" pin { RXD, INT0, INT1, T0, T1, T2, T2EX }
+        "C51_" address { PCON, TCON, TMOD, TL0, TL1, TH0, TH1, SCON, SBUF, IE, IP, T2CON, RCAP2L, RCAP2H, TL2, TH2 }
+        "C51_CALL_" call { RESET, READ, WRITE, CYCLE, JUMP, TRACE, LOOK, OFFER, TAKE, RETURN }
+    };
+    let others = [
+        ("C51_PASSED", 0),
+        ("C51_BAD_RECORD", Refusal::BadRecord as u64),
+        ("C51_BAD_KIND", Refusal::BadKind as u64),
+        ("C51_BAD_ADDRESS", Refusal::BadAddress as u64),
+        ("C51_BAD_PINS", Refusal::BadPins as u64),
+        ("C51_TOO_LONG", Refusal::TooLong as u64),
+        ("C51_NOTHING_OFFERED", Refusal::NothingOffered as u64),
+        ("C51_NOTHING_IN_SERVICE", Refusal::NothingInService as u64),
+        ("C51_EMPTY_ENTRY", Refusal::EmptyEntry as u64),
+        ("C51_ROLLED_TWICE", Refusal::RolledTwice as u64),
+        ("C51_MAX_CYCLES", MAX_CYCLES),
+        ("C51_MAX_TRACE", MAX_TRACE as u64),
+        ("C51_PINS_HIGH", PINS_HIGH.into()),
+        ("C51_CALL_WORDS", CALL_WORDS as u64),
+        ("C51_ANSWER_WORDS", ANSWER_WORDS as u64),
+        ("C51_NONE", NONE),
+    ];
+    constants.extend(others.map(|(c, rust)| Constant { c: c.to_string(), rust }));
+    constants
 }
 
 fn dist() -> PathBuf {
@@ -78,6 +120,18 @@ fn run_c(name: &str, source: &Path) -> String {
     printed
 }
 
+/// The numbers that expressions have in C.
+fn in_c<'a>(name: &str, expressions: impl Iterator<Item = &'a str>) -> Vec<u64> {
+    let mut source = String::from("#include <c51.h>\n#include <stdio.h>\n\nint main(void) {\n");
+    for expression in expressions {
+        source += &format!("    printf(\"%llu\\n\", (unsigned long long)({expression}));\n");
+    }
+    source += "    return 0;\n}\n";
+    let file = Path::new(env!("CARGO_TARGET_TMPDIR")).join(format!("{name}.c"));
+    std::fs::write(&file, source).expect("the C file is written");
+    run_c(name, &file).lines().map(|line| line.parse().expect("a number")).collect()
+}
+
 #[test]
 fn the_layout_in_rust() {
     for place in places() {
@@ -88,22 +142,36 @@ fn the_layout_in_rust() {
 #[test]
 fn the_layout_in_c() {
     let places = places();
-    let mut source = String::from("#include <c51.h>\n#include <stdio.h>\n\nint main(void) {\n");
-    for place in &places {
-        source += &format!("    printf(\"%zu\\n\", {});\n", place.c);
-    }
-    source += "    return 0;\n}\n";
-    let file = Path::new(env!("CARGO_TARGET_TMPDIR")).join("layout.c");
-    std::fs::write(&file, source).expect("the C file is written");
-    let printed = run_c("layout_in_c", &file);
-    let numbers: Vec<&str> = printed.lines().collect();
+    let numbers = in_c("layout", places.iter().map(|place| place.c.as_str()));
     assert_eq!(numbers.len(), places.len());
     for (place, number) in places.iter().zip(numbers) {
-        assert_eq!(number, place.expected.to_string(), "{}", place.c);
+        assert_eq!(number, place.expected as u64, "{}", place.c);
     }
 }
 
-/// The parts of the record and one byte of padding add up to its size, and the table has as many places in it as it has fields.
+/// The constants that the header defines.
+fn names_in_c() -> BTreeSet<String> {
+    let header = std::fs::read_to_string(dist().join("c51.h")).expect("the header");
+    let name = |line: &str| match line.split_whitespace().collect::<Vec<&str>>()[..] {
+        ["#define", name, _, ..] | [name, "=", ..] => Some(name.to_string()),
+        _ => None,
+    };
+    header.lines().filter_map(name).collect()
+}
+
+#[test]
+fn the_constants_in_c() {
+    let constants = constants();
+    assert_eq!(constants.iter().map(|constant| constant.c.clone()).collect::<BTreeSet<String>>(), names_in_c());
+    let numbers = in_c("constants", constants.iter().map(|constant| constant.c.as_str()));
+    assert_eq!(numbers.len(), constants.len());
+    for (constant, number) in constants.iter().zip(numbers) {
+        assert_eq!(number, constant.rust, "{}", constant.c);
+    }
+}
+
+/// The parts of the record and one byte of padding add up to its size, and the table has as many places in it as it has
+/// fields.
 #[test]
 fn the_table_is_whole() {
     let bytes: usize =

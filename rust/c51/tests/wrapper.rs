@@ -1,5 +1,5 @@
 //! The wrapper: each refusal that a call can meet, what a refused call leaves, and the values of each call.
-use c51::{address, Device, Refusal, MAX_CYCLES, MAX_TRACE, PINS_HIGH};
+use c51::{address, call, raw, AnswerRow, Device, Refusal, ANSWER_WORDS, CALL_WORDS, MAX_CYCLES, MAX_TRACE, NONE, PINS_HIGH};
 
 /// Timer 0 about to overflow, its interrupt enabled.
 fn timer_0_at_fffe() -> Device {
@@ -77,4 +77,90 @@ fn an_interrupt_from_overflow_to_return() {
     device.return_from_interrupt().unwrap();
     assert_eq!(device.interrupts.low, 0);
     assert_eq!(device.cycle, 3);
+}
+
+/// An answer in a list: its code, how many numbers it gives, and the first of them.
+fn answer(row: AnswerRow) -> [u64; 3] {
+    [row[0], row[1], row[2]]
+}
+
+/// A list answers as the single calls do, and leaves what they leave.
+#[test]
+fn a_list_of_every_call() {
+    let pins = PINS_HIGH.into();
+    let rows = [
+        ([call::LOOK, pins, 1], [0, NONE, 0]),
+        ([call::LOOK, pins, MAX_CYCLES], [0, 1, 2]),
+        ([call::CYCLE, pins, 0], [0, 1, 1]),
+        ([call::JUMP, pins, 1], [0, 0, 0]),
+        ([call::READ, address::TCON.into(), 0], [0, 1, 0x30]),
+        ([call::OFFER, 0, 0], [0, NONE, 0]),
+        ([call::TRACE, 0, 1], [Refusal::BadPins as u64, 0, 0]),
+        ([call::TRACE, 1, 2], [0, 0, 0]),
+        ([call::OFFER, 0, 0], [0, 1, 0x0B]),
+        ([call::TAKE, 0, 0], [0, 1, 0x0B]),
+        ([call::WRITE, address::TMOD.into(), 0x101], [0, 0, 0]),
+        ([call::RETURN, 0, 0], [0, 0, 0]),
+        ([u64::MAX, 0, 0], [Refusal::NothingInService as u64, 0, 0]),
+    ];
+    let mut device = timer_0_at_fffe();
+    let mut answers = [[0; ANSWER_WORDS]; 13];
+    device.replay(&rows.map(|(call, _)| call), &[0x8000_0001, 0x7F00_0001], &mut answers);
+    assert_eq!(answers.map(answer), rows.map(|(_, answer)| answer));
+
+    let mut single = timer_0_at_fffe();
+    single.jump(PINS_HIGH, 3).unwrap();
+    single.take().unwrap();
+    single.return_from_interrupt().unwrap();
+    assert_eq!(device, single);
+
+    device.replay(&[[call::RESET, 51, 0]], &[], &mut answers[..1]);
+    assert_eq!((Ok(device), answer(answers[0])), (Device::reset(51), [0, 0, 0]));
+    device.replay(&[[call::RESET, 50, 0]], &[], &mut answers[..1]);
+    assert_eq!((device, answer(answers[0])), (Device::default(), [Refusal::BadKind as u64, 0, 0]));
+}
+
+/// As many calls run as both slices have whole rows for, and what lies past them in the answers stays.
+#[test]
+fn whole_rows_run() {
+    let calls = [[call::CYCLE, PINS_HIGH.into(), 0]; 5];
+    for calls_length in 0..=calls.as_flattened().len() {
+        for answers_length in 0..=5 * ANSWER_WORDS {
+            let mut device = Device::reset(51).unwrap();
+            let mut answers = [[7; ANSWER_WORDS]; 5];
+            let answers_given = &mut answers.as_flattened_mut()[..answers_length];
+            raw::replay(&mut device, &calls.as_flattened()[..calls_length], &[], answers_given);
+            let ran = (calls_length / CALL_WORDS).min(answers_length / ANSWER_WORDS);
+            assert_eq!(device.cycle, ran as u64);
+            assert!(answers[..ran].iter().all(|row| answer(*row) == [0, 1, 1]), "{calls_length} and {answers_length} words");
+            assert!(answers[ran..].as_flattened().iter().all(|&word| word == 7), "{calls_length} and {answers_length} words");
+        }
+    }
+}
+
+/// A trace that is not in order or not in range of the lent entries is empty: it passes and runs nothing.
+#[test]
+fn the_part_of_a_trace() {
+    let lent = [0x7F00_0001, 0x7F00_0010, 0x7F00_0100];
+    for (start, end, cycles) in [
+        (0, 3, 0x111),
+        (0, 1, 0x001),
+        (1, 3, 0x110),
+        (2, 3, 0x100),
+        (3, 3, 0),
+        (0, 0, 0),
+        (2, 1, 0),
+        (0, 4, 0),
+        (4, 4, 0),
+        (0, u64::MAX, 0),
+        (u64::MAX, u64::MAX, 0),
+        (u64::MAX, 1, 0),
+        (1 << 32, 1, 0),
+        (1 << 63, 3, 0),
+    ] {
+        let mut device = Device::reset(52).unwrap();
+        let mut answers = [[7; ANSWER_WORDS]];
+        device.replay(&[[call::TRACE, start, end]], &lent, &mut answers);
+        assert_eq!((answer(answers[0]), device.cycle), ([0, 0, 0], cycles), "{start} to {end}");
+    }
 }

@@ -1,8 +1,10 @@
 //! Fresh random records of any content and random lists of calls, beside those of the model's generator.
-use crate::call::{entry, Call};
+use crate::entry;
 use crate::pair::{Pair, Tally};
-use c51::{address, Device, Interrupts, Receiver, Sender, Serial, Timer2, Timers, MAX_CYCLES, PINS_HIGH};
+use c51::{address, Device, Timer2, MAX_CYCLES, PINS_HIGH};
 use random::Rng;
+use replay::calls::{Call, Request};
+use replay::record::FIELDS;
 use std::path::Path;
 use std::process::Command;
 
@@ -44,30 +46,9 @@ const REGISTERS: [u8; 16] = [
 
 /// A record of any bytes.
 fn any_record(rng: &mut Rng) -> Device {
-    let mut byte = || rng.byte();
-    let timers =
-        Timers { tcon: byte(), tmod: byte(), tl0: byte(), tl1: byte(), th0: byte(), th1: byte(), due0: byte(), due1: byte() };
-    let timer2 = Timer2 { t2con: byte(), rcap2l: byte(), rcap2h: byte(), tl2: byte(), th2: byte(), due2: byte() };
-    let interrupts = Interrupts { ie: byte(), ip: byte(), seen: byte(), polled: byte(), low: byte(), high: byte() };
-    let (send_position, send_counter) = (byte(), byte());
-    let (position, counter, votes, sample) = (byte(), byte(), byte(), byte());
-    let (kind, pcon, scon, half, received) = (byte(), byte(), byte(), byte(), byte());
-    Device {
-        kind,
-        pcon,
-        timers,
-        timer2,
-        serial: Serial {
-            scon,
-            send: Sender { position: send_position, value: rng.number() as u16, counter: send_counter },
-            receive: Receiver { position, value: rng.number() as u16, counter, votes, sample },
-            half,
-            received,
-        },
-        interrupts,
-        levels: std::array::from_fn(|_| rng.byte()),
-        cycle: rng.number(),
-    }
+    let mut device = Device::default();
+    FIELDS.iter().for_each(|field| (field.set)(&mut device, rng.number()));
+    device
 }
 
 /// A record of any content within the ranges and masks: reachable or not, it is accepted.
@@ -232,7 +213,7 @@ pub fn run_record(rng: &mut Rng) -> Result<Tally, String> {
     let pair = Pair::of_record(raw_record(rng));
     let mut tally = Tally::default();
     for name in NAMES {
-        tally += pair.clone().run_calls(std::iter::once(Ok(call(rng, name, 8))))?;
+        tally += pair.clone().run([Request::Call(call(rng, name, 8))])?;
     }
     Ok(tally)
 }
@@ -256,14 +237,13 @@ fn next_name(rng: &mut Rng) -> Name {
 /// Runs a random list from reset or from a raw record.
 pub fn run_list(rng: &mut Rng, length: u64) -> Result<Tally, String> {
     let first = match rng.below(3) {
-        0 => Call::Load(Box::new(good_record(rng))),
-        _ => Call::Reset(rng.pick(&[51, 52])),
+        0 => Request::Put(Box::new(good_record(rng))),
+        _ => Request::Call(Call::Reset(rng.pick(&[51, 52]))),
     };
     let most = rng.pick(&[3, 30, 300, 3000]);
     let calls = (1..length).map(|_| {
         let name = next_name(rng);
-        call(rng, name, most)
+        Request::Call(call(rng, name, most))
     });
-    let calls: Vec<Call> = std::iter::once(first).chain(calls).collect();
-    Pair::default().run_calls(calls.into_iter().map(Ok))
+    Pair::default().run(std::iter::once(first).chain(calls))
 }

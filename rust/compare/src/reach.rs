@@ -1,10 +1,12 @@
 //! The reach of the comparison. A chip rests under a pin byte where no timer counts, no frame is under way and the cycle number alone
 //! moves; both cross that at once. Before it the model steps every cycle, and the library makes a round of every cycle with an overflow
 //! or of a frame, also of one that waits on a stopped clock. A call of very many such cycles is run over fewer, on both.
-use crate::call::{entry, Call};
+use crate::entry;
 use c51::{MAX_CYCLES, MAX_TRACE};
 use c51model::model::{entry_cycles, entry_pins, Device};
 use c51model::script;
+use replay::calls::{Call, Request};
+use replay::lines;
 
 /// The most cycles of a jump, a look ahead or a trace entry before the chip rests or the look ahead ends.
 pub const REACH: u64 = 1 << 19;
@@ -73,7 +75,8 @@ fn trace_in_reach(device: &Device, entries: &[u32]) -> Vec<u32> {
 }
 
 /// The call over fewer cycles where it is out of reach of the device, and none where it is in reach.
-pub fn shortened(device: &Device, call: &Call) -> Option<Call> {
+pub fn shortened(device: &Device, request: &Request) -> Option<Request> {
+    let Request::Call(call) = request else { return None };
     let within = match call {
         &Call::Jump(pins, n) => Call::Jump(pins, jump_in_reach(device, pins, n)),
         &Call::Look(pins, n) => Call::Look(pins, look_in_reach(device, pins, n)),
@@ -82,7 +85,7 @@ pub fn shortened(device: &Device, call: &Call) -> Option<Call> {
         }
         _ => return None,
     };
-    (within != *call).then_some(within)
+    (within != *call).then_some(Request::Call(within))
 }
 
 /// A call script with the calls shortened that are out of reach. Every other line stays as it is, also one that is a fault.
@@ -91,7 +94,8 @@ pub fn script_in_reach(text: &str) -> String {
     let mut within = String::with_capacity(text.len());
     for whole in text.split_inclusive('\n') {
         let line = whole.strip_suffix('\n').unwrap_or(whole);
-        let shorter = Call::parse(line).ok().and_then(|call| shortened(&device, &call)).map(|call| call.to_string());
+        let request = lines::request(line.as_bytes());
+        let shorter = request.and_then(|request| shortened(&device, &request)).map(|shorter| shorter.to_string());
         let chosen = shorter.as_deref().unwrap_or(line);
         // a fault leaves the device
         let _ = script::run_line(&mut device, chosen);

@@ -1,11 +1,13 @@
 //! A fixed number of lists and raw records of fixed seeds, and that the comparison finds what it must.
-use c51::{Device, PINS_HIGH};
+use c51::{call, Device, ANSWER_WORDS, MAX_CYCLES, PINS_HIGH};
 use c51model::script;
-use compare::call::{entry, Call};
+use compare::entry;
 use compare::lists::{raw_record, run_list, run_record, script, STYLES};
 use compare::pair::{Pair, Tally};
 use compare::record::{of_model, to_model};
 use random::Rng;
+use replay::calls::{Call, Request};
+use replay::record::{numbers, NUMBERS};
 use std::path::Path;
 
 const SCRIPTS_OF_A_STYLE: u64 = 4;
@@ -109,8 +111,8 @@ fn run_mixed(device: &mut Device, list: &[Stretch], rng: &mut Rng) {
     }
 }
 
-/// Devices started alike and taken through the same cycles by single cycles, by jumps, by one trace and by any mix of them are equal in
-/// every field, and equal the model.
+/// Devices started alike and taken through the same cycles by single cycles, by jumps, by one trace and by any mix of
+/// them are equal in every field, and equal the model.
 #[test]
 fn any_cut_ends_alike() {
     let mut lists = 0;
@@ -136,17 +138,67 @@ fn any_cut_ends_alike() {
     assert!(lists > 1_000, "{lists} lists");
 }
 
-/// A difference in any one of the 41 numbers is found, and the text has the script that shows it.
+/// The call of a row of any words: a byte is the low 8 bits of its word, a number that names no call is a return, and a
+/// trace whose part is not in order or not in range is empty.
+fn call_of([number, a, b]: [u64; 3], lent: &[u32]) -> Call {
+    match number {
+        call::RESET => Call::Reset(a as u8),
+        call::READ => Call::Read(a as u8),
+        call::WRITE => Call::Write(a as u8, b as u8),
+        call::CYCLE => Call::Cycle(a as u8),
+        call::JUMP => Call::Jump(a as u8, b),
+        call::TRACE => {
+            let part = usize::try_from(a).ok().zip(usize::try_from(b).ok()).and_then(|(start, end)| lent.get(start..end));
+            Call::Trace(part.unwrap_or_default().to_vec())
+        }
+        call::LOOK => Call::Look(a as u8, b),
+        call::OFFER => Call::Offer,
+        call::TAKE => Call::Take,
+        _ => Call::Return,
+    }
+}
+
+#[test]
+fn rows_of_any_words() {
+    for seed in 0..100_000 {
+        let rng = &mut Rng::part(7, seed);
+        let device = raw_record(rng);
+        let lent: Vec<u32> = (0..rng.below(5)).map(|_| entry(rng.byte() & PINS_HIGH, rng.below(40))).collect();
+        let number = if rng.one_in(4) { rng.number() } else { rng.below(12) };
+        let first = match rng.below(3) {
+            0 => rng.below(6),
+            1 => rng.number() << 8 | rng.pick(&[51, 52, 0x7F, 0x88, 0x99]),
+            _ => rng.number(),
+        };
+        // few cycles, or more than a call may have
+        let second = match rng.below(3) {
+            0 => rng.below(6),
+            1 => rng.below(300),
+            _ => rng.number() | MAX_CYCLES << 1,
+        };
+        let row = [number, first, second];
+
+        let (mut by_row, mut by_call) = (device, device);
+        let (mut answer, mut expected) = ([[7; ANSWER_WORDS]], [[8; ANSWER_WORDS]]);
+        by_row.replay(&[row], &lent, &mut answer);
+        let mut entries = Vec::new();
+        let call = call_of(row, &lent);
+        by_call.replay(&[call.row(&mut entries)], &entries, &mut expected);
+        assert_eq!((by_row, answer), (by_call, expected), "record {seed}, {row:?}: {call}");
+    }
+}
+
+/// A difference in any one of the numbers is found, and the text has the script that shows it.
 #[test]
 fn a_difference_in_any_field_is_found() {
     let mut rng = Rng::new(3);
-    for number in 0..41 {
+    for number in 0..NUMBERS {
         let library = raw_record(&mut rng);
-        let mut numbers: Vec<u64> = script::dump(&to_model(&library)).split(' ').map(|n| n.parse().unwrap()).collect();
+        let mut numbers = numbers(&library);
         numbers[number] ^= 1;
         let mut pair = Pair { library, model: script::raw_record(&numbers).unwrap() };
-        let text = pair.run(&Call::Dump).unwrap_err();
-        assert!(text.contains(&format!("{}\nD\n", Call::Load(Box::new(library)))), "{text}");
+        let text = pair.run([Request::Dump]).unwrap_err();
+        assert!(text.contains(&format!("{}\nD\n", Request::Put(Box::new(library)))), "{text}");
     }
 }
 
@@ -158,18 +210,4 @@ fn the_two_records_are_one_to_one() {
         assert_eq!(of_model(&to_model(&device)), device);
     }
     assert_eq!(to_model(&Device::default()), c51model::model::Device::zero());
-}
-
-#[test]
-fn lines_and_calls() {
-    let lines =
-        ["R 52", "W 137 32", "r 153", "C 127", "J 127 1099511627776", "T 0", "T 2 1 4294967295", "L 126 5", "O", "K", "I", "D"];
-    for line in lines {
-        assert_eq!(Call::parse(line).unwrap().to_string(), line);
-    }
-    let load = Call::Load(Box::new(raw_record(&mut Rng::new(5))));
-    assert_eq!(Call::parse(&load.to_string()).unwrap(), load);
-    for line in ["", "X", "R", "R 256", "W 1", "C 1 2", "T 2 1", "T 1 4294967296", "S 1", "J 1 -1", "J 1 +1", "O 1"] {
-        assert!(Call::parse(line).is_err(), "{line}");
-    }
 }

@@ -1,7 +1,8 @@
 //! The reach of the comparison: what is shortened and what is not, and the program over a script.
 use c51::{pin, PINS_HIGH};
-use compare::call::{entry, Call};
+use compare::entry;
 use compare::reach::{script_in_reach, REACH};
+use replay::calls::Call;
 use std::io::Write;
 use std::process::{Command, Output, Stdio};
 

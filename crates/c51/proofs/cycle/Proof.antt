@@ -1,59 +1,71 @@
 -- `cycle` is the machine's answer: the cycle by the contract of `cycle_once`, the line of a device that stays accepted.
-use mathlib.Core.Path.{_≡_, refl, sym, ap, _∙_}
-use borrow.Author.Tests.{eq-eqb, ne-eqb, lt-ltb, le-ltb}
-use Prim.Native.Nat.{ℕ, _≤_}
-use mathlib.Core.Path.{subst}
-use Rattle.machine.specs.declared.Device.{Device}
+use mathlib.Core.Path.{sym, _∙_}
 use Rattle.machine.specs.Calls.{cycleAnswer}
-use Rattle.cycle.specs.declared.Once.{Once}
-use Rattle.cycle.proofs.Keeps.{sends-within}
+use Rattle.machine.specs.Cycle.{cycleOf}
+use Rattle.cycle.proofs.Keeps.{cycle-accepted, sends-within}
+use Rattle.cycle.proofs.Steps.{once-refused, once-reaches}
 use borrow.Author.Needs.{needs}
+use Rattle.c51.proofs.Guards.{yes, no}
 use Rattle.c51.proofs.cycle.Statement.{statement}
 use Rattle.c51.proofs.cycle.Tie as tie
-use Rattle.c51.proofs.cycle.Reads as reads
-use Rattle.c51.proofs.cycle.Lts as lts
-use Rattle.cycle.proofs.cycle_once.Reads as cycle-once-reads
-use Rattle.registers.proofs.accepts.Reads as accepts-reads
-use Rattle.serial.proofs.line_of.Reads as line-of-reads
-
-accepts-requires : tie.Need-accepts-requires
-accepts-requires c κs = search needs
-
-cycle-once-requires : tie.Need-cycle-once-requires
-cycle-once-requires c κs = sym (c .before .before .accepts .ensures) ∙ c .before .if1 .taken
-
-line-of-requires : tie.Need-line-of-requires
-line-of-requires c κs = let o = c .before .before in
-    let a = o .before .before .before in
-    subst (λ (e : Once). e .device .serial .send .position ≤ 11) (sym (o .cycle-once .ensures)) (sends-within (a .before .args .pins) (a .before .args .d) (sym (a .accepts .ensures) ∙ o .before .before .if1 .taken))
 
 returns : tie.Need-returns
 unfolding cycleAnswer
-returns c = let o = c .before in
-    simp (sym (o .before .before .before .accepts .ensures) ∙ o .before .before .if1 .taken, lt-ltb _ _ (o .before .if2 .taken), sym (ap (λ (e : Once). e .twice) (o .cycle-once .ensures)) ∙ c .if3 .taken)
+returns c = rw (no (c .before .before .accepts .ensures) (c .before .if1 .taken)) (c .refuse-cycle .ensures)
 
 returns-2 : tie.Need-returns-2
 unfolding cycleAnswer
-returns-2 c = let i = c .before .before in
-    let o = i .before in
-    simp (sym (o .before .before .before .accepts .ensures) ∙ o .before .before .if1 .taken, lt-ltb _ _ (o .before .if2 .taken), sym (ap (λ (e : Once). e .twice) (o .cycle-once .ensures)) ∙ i .if3 .left, c .line-of .ensures, o .cycle-once .ensures)
+returns-2 c =
+    let p = c .before .before in
+    rw (yes (p .before .before .accepts .ensures) (p .before .if1 .left), no (p .pins-ok .ensures) (c .before .if2 .taken)) (c .refuse-cycle2 .ensures)
+
+cycle-once-requires : tie.Need-cycle-once-requires
+cycle-once-requires c κs = let p = c .before .before in yes (p .before .before .accepts .ensures) (p .before .if1 .left)
 
 returns-3 : tie.Need-returns-3
 unfolding cycleAnswer
-returns-3 c = simp (sym (c .before .before .accepts .ensures) ∙ c .before .if1 .taken, le-ltb _ _ (c .if2 .left))
+returns-3 c =
+    let o = c .before .before in
+    let l = o .before in
+    let p = l .before .before in
+    let x = p .before .before .before .args in
+    let refused = once-refused (x .pins) (x .d) (l .pins-of .ensures) (o .cycle-once .ensures) in
+    rw (yes (p .before .before .accepts .ensures) (p .before .if1 .left), yes (p .pins-ok .ensures) (l .before .if2 .left), sym refused ∙ c .before .if3 .taken) (c .refuse-cycle3 .ensures)
+
+passed-cycle-requires : tie.Need-passed-cycle-requires
+passed-cycle-requires c κs =
+    let o = c .before in
+    let l = o .before in
+    let p = l .before .before in
+    let x = p .before .before .before .args in
+    let ok = yes (p .before .before .accepts .ensures) (p .before .if1 .left) in
+    rw (once-reaches (x .pins) (x .d) (l .pins-of .ensures) (o .cycle-once .ensures)) (sends-within (cycleOf (x .pins) (x .d)) (cycle-accepted (x .pins) (x .d) ok))
 
 returns-4 : tie.Need-returns-4
 unfolding cycleAnswer
-returns-4 c = simp (sym (c .before .accepts .ensures) ∙ c .if1 .left)
+returns-4 c =
+    let t = c .before in
+    let o = t .before in
+    let l = o .before in
+    let p = l .before .before in
+    let x = p .before .before .before .args in
+    let refused = once-refused (x .pins) (x .d) (l .pins-of .ensures) (o .cycle-once .ensures) in
+    let reaches = once-reaches (x .pins) (x .d) (l .pins-of .ensures) (o .cycle-once .ensures) in
+    rw (yes (p .before .before .accepts .ensures) (p .before .if1 .left), yes (p .pins-ok .ensures) (l .before .if2 .left), sym refused ∙ t .if3 .left, ← reaches) (c .passed-cycle .ensures)
 
 pub cycle-spec : {M : Type 1} → statement M
 cycle-spec =
     tie.close
     (tie.spec
-    accepts-requires
-    cycle-once-requires
-    line-of-requires
+    (search needs)
+    (search needs)
     returns
+    (search needs)
+    (search needs)
     returns-2
+    (search needs)
+    cycle-once-requires
+    (search needs)
     returns-3
+    passed-cycle-requires
     returns-4)

@@ -1,38 +1,43 @@
--- `write` is the machine's answer: the table's mask decides refusal 3, and the store is the definition's.
-use mathlib.Core.Path.{_≡_, refl, sym, ap, _∙_}
-use borrow.Author.Tests.{eq-eqb, ne-eqb, lt-ltb, le-ltb}
+-- `write` is the machine's answer: what stands at the address is the register, with its implemented bits, or refusal 3.
 use Rattle.machine.specs.Calls.{writeAnswer}
+use Rattle.registers.specs.Places.{Stands, Lacks}
 use borrow.Author.Needs.{needs}
+use Rattle.c51.proofs.Guards.{yes, no}
 use Rattle.c51.proofs.write.Statement.{statement}
 use Rattle.c51.proofs.write.Tie as tie
-use Rattle.c51.proofs.write.Reads as reads
-use Rattle.c51.proofs.write.Lts as lts
-use Rattle.registers.proofs.accepts.Reads as accepts-reads
-use Rattle.registers.proofs.implemented.Reads as implemented-reads
-use Rattle.registers.proofs.stored.Reads as stored-reads
-
-accepts-requires : tie.Need-accepts-requires
-accepts-requires c κs = search needs
-
-implemented-requires : tie.Need-implemented-requires
-implemented-requires c κs = search needs
-
-stored-requires : tie.Need-stored-requires
-stored-requires c κs = search needs
 
 returns : tie.Need-returns
 unfolding writeAnswer
-returns c = simp (sym (c .before .before .before .accepts .ensures) ∙ c .before .before .if1 .taken, eq-eqb _ _ (sym (c .before .implemented .ensures) ∙ c .if2 .taken))
+returns c = rw (no (c .before .before .accepts .ensures) (c .before .if1 .taken)) (c .refuse .ensures)
 
 returns-2 : tie.Need-returns-2
 unfolding writeAnswer
-returns-2 c = simp (sym (c .before .before .before .before .accepts .ensures) ∙ c .before .before .before .if1 .taken, ne-eqb _ _ (λ e. c .before .if2 .left (c .before .before .implemented .ensures ∙ e)), c .stored .ensures, c .before .before .implemented .ensures)
+returns-2 c =
+    let p = c .before .before in
+    let f = p .before .before in
+    let s : Lacks _ _ _ = rw (p .place .given .1) at (f .find .ensures) in
+    simp (c .refuse2 .ensures, yes (f .before .before .accepts .ensures) (f .before .if1 .left), s .none, s .number)
 
 returns-3 : tie.Need-returns-3
 unfolding writeAnswer
-returns-3 c = simp (sym (c .before .accepts .ensures) ∙ c .if1 .left)
+returns-3 c =
+    let p = c .before .before .before in
+    let f = p .before .before in
+    let s : Stands _ _ _ _ = rw (p .place2 .given .1) at (f .find .ensures) in
+    simp (yes (f .before .before .accepts .ensures) (f .before .if1 .left), s .has, c .passed .ensures, c .before .stored .ensures, s .address, s .mask)
 
 pub write-spec : {M : Type 1} → statement M
 write-spec =
     tie.close
-    (tie.spec accepts-requires implemented-requires stored-requires returns returns-2 returns-3)
+    (tie.spec
+    (search needs)
+    (search needs)
+    returns
+    (search needs)
+    (search needs)
+    (search needs)
+    (search needs)
+    (search needs)
+    (search needs)
+    returns-2
+    returns-3)

@@ -5,9 +5,6 @@ use Rattle.c51_lent.specs.Answers.{acceptsAnswer}
 use Rattle.c51_lent.proofs.c51_accepts.Statement.{statement}
 use Rattle.c51_lent.proofs.c51_accepts.Tie as tie
 
-accepts-requires : tie.Need-accepts-requires
-accepts-requires c κs = search needs
-
 returns : tie.Need-returns
 unfolding acceptsAnswer
 returns c = simp (sym (c .before .accepts .ensures) ∙ c .if1 .taken)
@@ -17,4 +14,4 @@ unfolding acceptsAnswer
 returns-2 c = simp (sym (c .before .accepts .ensures) ∙ c .if1 .left)
 
 pub c51-accepts-spec : {M : Type 1} → statement M
-c51-accepts-spec = tie.close (tie.spec accepts-requires returns returns-2)
+c51-accepts-spec = tie.close (tie.spec (search needs) returns returns-2)

@@ -5,31 +5,22 @@ use Rattle.c51_lent.specs.Answers.{lookedAnswer}
 use Rattle.c51_lent.proofs.c51_look.Statement.{statement}
 use Rattle.c51_lent.proofs.c51_look.Tie as tie
 
-look-requires : tie.Need-look-requires
-look-requires c κs = search needs
-
-enum-known-a : tie.Need-enum-known-a
-enum-known-a c = search needs
-
-enum-known-a-2 : tie.Need-enum-known-a-2
-enum-known-a-2 c = search needs
-
 enum-told : tie.Need-enum-told
 enum-told c = search needs
 
 returns : tie.Need-returns
 unfolding lookedAnswer
-returns c = simp (sym (c .before .before .before .look .ensures), c .before .a .given .1)
+returns c = simp (sym (c .before .before .before .look .ensures .0), c .before .a .given .1)
 
 returns-2 : tie.Need-returns-2
 unfolding lookedAnswer
-returns-2 c = simp (sym (c .before .before .before .look .ensures), c .before .a2 .given .1)
+returns-2 c = simp (sym (c .before .before .before .look .ensures .0), c .before .a2 .given .1)
 
 returns-3 : tie.Need-returns-3
 unfolding lookedAnswer
-returns-3 c = simp (sym (c .before .before .look .ensures), c .enum-told .given .1)
+returns-3 c = simp (sym (c .before .before .look .ensures .0), c .enum-told .given .1)
 
 pub c51-look-spec : {M : Type 1} → statement M
 c51-look-spec =
     tie.close
-    (tie.spec look-requires enum-known-a enum-known-a-2 enum-told returns returns-2 returns-3)
+    (tie.spec (search needs) (search needs) (search needs) enum-told returns returns-2 returns-3)

@@ -5,22 +5,13 @@ use Rattle.c51_lent.specs.Answers.{valueAnswer}
 use Rattle.c51_lent.proofs.c51_read.Statement.{statement}
 use Rattle.c51_lent.proofs.c51_read.Tie as tie
 
-read-requires : tie.Need-read-requires
-read-requires c κs = search needs
-
-enum-known-a : tie.Need-enum-known-a
-enum-known-a c = search needs
-
-enum-known-a-2 : tie.Need-enum-known-a-2
-enum-known-a-2 c = search needs
-
 returns : tie.Need-returns
 unfolding valueAnswer
-returns c = simp (sym (c .before .before .before .read .ensures), c .before .a .given .1)
+returns c = simp (sym (c .before .before .before .read .ensures .0), c .before .a .given .1)
 
 returns-2 : tie.Need-returns-2
 unfolding valueAnswer
-returns-2 c = simp (sym (c .before .before .before .read .ensures), c .before .a2 .given .1)
+returns-2 c = simp (sym (c .before .before .before .read .ensures .0), c .before .a2 .given .1)
 
 pub c51-read-spec : {M : Type 1} → statement M
-c51-read-spec = tie.close (tie.spec read-requires enum-known-a enum-known-a-2 returns returns-2)
+c51-read-spec = tie.close (tie.spec (search needs) (search needs) (search needs) returns returns-2)

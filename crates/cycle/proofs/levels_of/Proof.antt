@@ -3,8 +3,6 @@ use Rattle.laws.proofs.Bits.{bits}
 use Rattle.machine.specs.Record.{levelsOf}
 use Rattle.cycle.proofs.levels_of.Statement.{statement}
 use Rattle.cycle.proofs.levels_of.Tie as tie
-use Rattle.cycle.proofs.levels_of.Reads as reads
-use Rattle.cycle.proofs.levels_of.Lts as lts
 
 returns : tie.Need-returns
 unfolding levelsOf

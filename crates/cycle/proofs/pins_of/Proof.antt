@@ -6,12 +6,6 @@ use Rattle.machine.specs.Bits.{setBit}
 use borrow.Author.Needs.{needs}
 use Rattle.cycle.proofs.pins_of.Statement.{statement}
 use Rattle.cycle.proofs.pins_of.Tie as tie
-use Rattle.cycle.proofs.pins_of.Reads as reads
-use Rattle.cycle.proofs.pins_of.Lts as lts
-use Rattle.laws.proofs.picked.Reads as picked-reads
-
-picked-requires : tie.Need-picked-requires
-picked-requires c κs = search needs
 
 returns : tie.Need-returns
 unfolding pinsOf
@@ -20,4 +14,4 @@ returns c =
     c .picked .ensures ∙ simp (or-bit p 5, or-bit (setBit 5 p) 6)
 
 pub pins-of-spec : {M : Type 1} → statement M
-pins-of-spec = tie.close (tie.spec picked-requires returns)
+pins-of-spec = tie.close (tie.spec (search needs) returns)

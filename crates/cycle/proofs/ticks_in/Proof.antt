@@ -3,16 +3,10 @@ use Rattle.machine.specs.Cycle.{ticksIn}
 use borrow.Author.Needs.{needs}
 use Rattle.cycle.proofs.ticks_in.Statement.{statement}
 use Rattle.cycle.proofs.ticks_in.Tie as tie
-use Rattle.cycle.proofs.ticks_in.Reads as reads
-use Rattle.cycle.proofs.ticks_in.Lts as lts
-use Rattle.serial.proofs.serial_ticks.Reads as serial-ticks-reads
-
-serial-ticks-requires : tie.Need-serial-ticks-requires
-serial-ticks-requires c κs = search needs
 
 returns : tie.Need-returns
 unfolding ticksIn
 returns c = c .serial-ticks .ensures
 
 pub ticks-in-spec : {M : Type 1} → statement M
-ticks-in-spec = tie.close (tie.spec serial-ticks-requires returns)
+ticks-in-spec = tie.close (tie.spec (search needs) returns)

@@ -3,16 +3,10 @@ use Rattle.machine.specs.Cycle.{timer2After}
 use borrow.Author.Needs.{needs}
 use Rattle.cycle.proofs.timer2_after.Statement.{statement}
 use Rattle.cycle.proofs.timer2_after.Tie as tie
-use Rattle.cycle.proofs.timer2_after.Reads as reads
-use Rattle.cycle.proofs.timer2_after.Lts as lts
-use Rattle.cycle.proofs.falls.Reads as falls-reads
-
-falls-requires : tie.Need-falls-requires
-falls-requires c κs = search needs
 
 returns : tie.Need-returns
 unfolding timer2After
 returns c = cc
 
 pub timer2-after-spec : {M : Type 1} → statement M
-timer2-after-spec = tie.close (tie.spec falls-requires returns)
+timer2-after-spec = tie.close (tie.spec (search needs) returns)

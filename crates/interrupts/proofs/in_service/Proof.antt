@@ -7,23 +7,10 @@ use lib.Dec.{eqb}
 use lib.Bits.{bitAnd}
 use Rattle.machine.specs.Bits.{bit}
 use Rattle.machine.specs.Interrupts.{inService}
-use Rattle.laws.proofs.Bits.{and-one}
-use Rattle.interrupts.proofs.Laws.{clear-shl}
+use Rattle.laws.proofs.Bits.{and-one, clear-shl}
 use borrow.Author.Needs.{needs}
 use Rattle.interrupts.proofs.in_service.Statement.{statement}
 use Rattle.interrupts.proofs.in_service.Tie as tie
-
-shl-others : tie.Need-shl-others
-shl-others c = search needs
-
-shr-marked : tie.Need-shr-marked
-shr-marked c = search needs
-
-picked-requires : tie.Need-picked-requires
-picked-requires c κs = search needs
-
-picked-requires-2 : tie.Need-picked-requires-2
-picked-requires-2 c κs = search needs
 
 returns : tie.Need-returns
 unfolding inService
@@ -42,5 +29,4 @@ returns c =
     }
 
 pub in-service-spec : {M : Type 1} → statement M
-in-service-spec =
-    tie.close (tie.spec shl-others shr-marked picked-requires picked-requires-2 returns)
+in-service-spec = tie.close (tie.spec (search needs) (search needs) (search needs) (search needs) returns)

@@ -8,21 +8,6 @@ use borrow.Author.Needs.{needs}
 use Rattle.interrupts.proofs.offered.Statement.{statement}
 use Rattle.interrupts.proofs.offered.Tie as tie
 
-picked-requires : tie.Need-picked-requires
-picked-requires c κs = search needs
-
-picked-requires-2 : tie.Need-picked-requires-2
-picked-requires-2 c κs = search needs
-
-picked-requires-3 : tie.Need-picked-requires-3
-picked-requires-3 c κs = search needs
-
-picked-requires-4 : tie.Need-picked-requires-4
-picked-requires-4 c κs = search needs
-
-first-of-requires : tie.Need-first-of-requires
-first-of-requires c κs = search needs
-
 returns : tie.Need-returns
 returns c =
     let two = c .before .before .before .before in
@@ -33,11 +18,4 @@ returns c =
 
 pub offered-spec : {M : Type 1} → statement M
 offered-spec =
-    tie.close
-    (tie.spec
-    picked-requires
-    picked-requires-2
-    picked-requires-3
-    picked-requires-4
-    first-of-requires
-    returns)
+    tie.close (tie.spec (search needs) (search needs) (search needs) (search needs) (search needs) returns)

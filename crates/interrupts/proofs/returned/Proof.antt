@@ -4,12 +4,9 @@ use borrow.Author.Needs.{needs}
 use Rattle.interrupts.proofs.returned.Statement.{statement}
 use Rattle.interrupts.proofs.returned.Tie as tie
 
-picked-requires : tie.Need-picked-requires
-picked-requires c κs = search needs
-
 returns : tie.Need-returns
 unfolding returned
 returns c = simp (c .picked .ensures)
 
 pub returned-spec : {M : Type 1} → statement M
-returned-spec = tie.close (tie.spec picked-requires returns)
+returned-spec = tie.close (tie.spec (search needs) returns)

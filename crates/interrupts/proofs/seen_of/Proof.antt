@@ -5,16 +5,10 @@ use borrow.Author.Needs.{needs}
 use Rattle.interrupts.proofs.seen_of.Statement.{statement}
 use Rattle.interrupts.proofs.seen_of.Tie as tie
 
-picked-requires : tie.Need-picked-requires
-picked-requires c κs = search needs
-
-picked-requires-2 : tie.Need-picked-requires-2
-picked-requires-2 c κs = search needs
-
 returns : tie.Need-returns
 returns c =
     let a = c .before .before .args in
     simp (c .picked2 .ensures, c .before .picked .ensures) (seen-by-masks (a .tcon) (a .scon) (a .t2con) (omega arith) (omega arith) (omega arith))
 
 pub seen-of-spec : {M : Type 1} → statement M
-seen-of-spec = tie.close (tie.spec picked-requires picked-requires-2 returns)
+seen-of-spec = tie.close (tie.spec (search needs) (search needs) returns)

@@ -1,25 +1,17 @@
--- `taken` is the definition, arm by arm: a mask clears the flag's bit.
+-- `taken` is the definition, arm by arm: a mask clears TFi.
 use native.Mathlib.Omega.{arith}
 use borrow.Author.Tests.{ne-eqb}
 use lib.Dec.{lit<}
-use Rattle.machine.specs.Registers.{IE0, TF0, IE1, TF1}
+use Rattle.machine.specs.Registers.{TF0, TF1}
 use Rattle.machine.specs.Interrupts.{taken}
-use Rattle.laws.proofs.Bits.{bits, clear-bit}
+use Rattle.laws.proofs.Bits.{clear-bit}
 use borrow.Author.Needs.{needs}
 use Rattle.interrupts.proofs.taken.Statement.{statement}
 use Rattle.interrupts.proofs.taken.Tie as tie
 
-picked-requires : tie.Need-picked-requires
-picked-requires c κs = search needs
-
-picked-requires-2 : tie.Need-picked-requires-2
-picked-requires-2 c κs = search needs
-
 returns : tie.Need-returns
 unfolding taken
-returns c =
-    let x = c .before .before .args .tcon in
-    simp (c .picked .ensures, c .before .match .keys1, bits, clear-bit IE0 (lit< tt) x (omega arith))
+returns c = simp (c .edge-taken .ensures, c .before .match .keys1)
 
 returns-2 : tie.Need-returns-2
 unfolding taken
@@ -27,9 +19,7 @@ returns-2 c = simp (c .match .keys2) (clear-bit TF0 (lit< tt) (c .before .args .
 
 returns-3 : tie.Need-returns-3
 unfolding taken
-returns-3 c =
-    let x = c .before .before .args .tcon in
-    simp (c .picked2 .ensures, c .before .match .keys3, bits, clear-bit IE1 (lit< tt) x (omega arith))
+returns-3 c = simp (c .edge-taken2 .ensures, c .before .match .keys3)
 
 returns-4 : tie.Need-returns-4
 unfolding taken
@@ -41,6 +31,4 @@ returns-5 c =
     simp (ne-eqb _ _ (c .match .rest .0 .0 .0 .1), ne-eqb _ _ (c .match .rest .0 .0 .1), ne-eqb _ _ (c .match .rest .0 .1), ne-eqb _ _ (c .match .rest .1))
 
 pub taken-spec : {M : Type 1} → statement M
-taken-spec =
-    tie.close
-    (tie.spec picked-requires picked-requires-2 returns returns-2 returns-3 returns-4 returns-5)
+taken-spec = tie.close (tie.spec (search needs) (search needs) returns returns-2 returns-3 returns-4 returns-5)

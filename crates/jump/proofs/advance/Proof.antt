@@ -1,21 +1,20 @@
 -- Round by round: the cycles that are left, from the device reached, end where all of them end, and no round is refused.
 use mathlib.Core.Path.{_≡_, refl, sym, _∙_}
-use Prim.Native.Nat.{ℕ, _≤_}
-use mathlib.Core.Bool.{true}
+use Prim.Native.Nat.{_≤_}
 use native.Mathlib.Omega.{arith}
-use Rattle.machine.specs.Record.{accepted}
 use Rattle.machine.specs.Cycle.{cycles}
 use Rattle.laws.proofs.Choices.{clash}
 use Rattle.strides.proofs.Runs.{cycles-none}
 use borrow.Author.Needs.{needs}
+use Rattle.jump.specs.Rounds.{Ready}
 use Rattle.jump.proofs.Keeps.{none-refused9}
 use Rattle.jump.proofs.Idles.{idle-on}
-use Rattle.jump.proofs.Rounds.{round-some, round-within, round-accepted, round-passes, round-on}
+use Rattle.jump.proofs.Rounds.{round-used, round-ready, round-passes, round-on}
 use Rattle.jump.proofs.advance.Statement.{statement}
 use Rattle.jump.proofs.advance.Tie as tie
 
 abbrev Inv-loop : tie.InvT-loop
-Inv-loop d pins n at₀ left₀ at left = (accepted at ≡ true) × (left ≤ n) × (cycles left pins at ≡ cycles n pins d)
+Inv-loop d pins n at₀ left₀ at left = Ready pins at × (left ≤ n) × (cycles left pins at ≡ cycles n pins d)
 
 abbrev μ-loop : tie.MeasureT-loop
 μ-loop d pins n at₀ left₀ at left = left
@@ -23,69 +22,47 @@ abbrev μ-loop : tie.MeasureT-loop
 loop-holds : tie.Need-loop-holds Inv-loop μ-loop
 loop-holds c = (c .pre .0, omega arith, refl)
 
-pins-of-requires : tie.Need-pins-of-requires Inv-loop μ-loop
-pins-of-requires c κs = search needs
-
-idles-requires : tie.Need-idles-requires Inv-loop μ-loop
-idles-requires c κs = search needs
-
-idle-requires : tie.Need-idle-requires Inv-loop μ-loop
-idle-requires c κs = search needs
-
 returns : tie.Need-returns Inv-loop μ-loop
 returns c =
     let q = c .before .before in
-    let p = q .before in
-    let w = p .before .before in
+    let w = q .before .before in
     let a = w .before in
     record {
-      refused = sym (none-refused9 (a .args .n) (a .args .pins) (a .args .d) (a .pre .0));
-      reaches = λ e. idle-on (a .args .pins) (w .loop .at) (w .loop .inv .0) (p .pins-of .ensures) (q .idles .ensures) (c .before .if1 .taken) (w .loop .left) (c .idle .ensures) (w .loop .inv .2);
+      refused = sym (none-refused9 (a .args .n) (a .args .pins) (a .args .d) (a .pre .0 .good));
+      reaches = λ e. idle-on (a .args .pins) (w .loop .at) (w .loop .inv .0) (q .idles .ensures) (c .before .if1 .taken) (w .loop .left) (c .idle .ensures) (w .loop .inv .2);
     }
 
 one-round-requires : tie.Need-one-round-requires Inv-loop μ-loop
-one-round-requires c κs = (c .before .before .before .before .loop .inv .0, omega arith, omega arith)
+one-round-requires c κs = (c .before .before .before .loop .inv .0, omega arith, omega arith)
 
 returns-2 : tie.Need-returns-2 Inv-loop μ-loop
 returns-2 c = let r = c .before .one-round .ensures in
-    absurd (clash (c .if2 .taken) (round-passes _ _ _ r (omega arith) (c .before .before .before .before .before .before .loop .inv .0)))
+    absurd (clash (c .if2 .taken) (round-passes _ _ _ r (omega arith) (c .before .before .before .before .before .loop .inv .0 .good)))
 
 sub-left : tie.Need-sub-left Inv-loop μ-loop
-sub-left c = round-within _ _ _ (c .before .before .before .one-round .ensures) (omega arith)
+sub-left c = round-used _ _ _ (c .before .before .before .one-round .ensures) (omega arith) .1
 
 loop-less : tie.Need-loop-less Inv-loop μ-loop
 loop-less c =
     let o = c .before .before .before in
-    omega (arith, round-some _ _ _ (o .one-round .ensures) (omega arith), round-within _ _ _ (o .one-round .ensures) (omega arith))
+    omega (arith, round-used _ _ _ (o .one-round .ensures) (omega arith))
 
 loop-again : tie.Need-loop-again Inv-loop μ-loop
 loop-again c =
     let r = c .before .before .before in
-    let i = r .before .before .before .before .before .loop .inv in
-    (round-accepted _ _ _ (r .one-round .ensures) (omega arith) (i .0), omega arith, round-on _ _ _ (r .one-round .ensures) (omega arith) (i .2))
+    let i = r .before .before .before .before .loop .inv in
+    (round-ready _ _ _ (r .one-round .ensures) (omega arith) (i .0), omega arith, round-on _ _ _ (r .one-round .ensures) (omega arith) (i .2))
 
 returns-3 : tie.Need-returns-3 Inv-loop μ-loop
 returns-3 c = let i = c .before .loop .inv in
     let a = c .before .before in
     record {
-      refused = sym (none-refused9 (a .args .n) (a .args .pins) (a .args .d) (a .pre .0));
+      refused = sym (none-refused9 (a .args .n) (a .args .pins) (a .args .d) (a .pre .0 .good));
       reaches = λ e. sym (cycles-none _ _ _ (c .loop-test .left)) ∙ i .2;
     }
 
 pub advance-spec : {M : Type 1} → statement M
 advance-spec =
     tie.close
-    (tie.spec
-    Inv-loop
-    μ-loop
-    loop-holds
-    pins-of-requires
-    idles-requires
-    idle-requires
-    returns
-    one-round-requires
-    returns-2
-    sub-left
-    loop-less
-    loop-again
-    returns-3)
+    (tie.spec Inv-loop μ-loop loop-holds (search needs) (search needs) returns one-round-requires returns-2 sub-left
+    loop-less loop-again returns-3)

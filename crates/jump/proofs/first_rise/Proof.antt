@@ -1,19 +1,18 @@
 -- Round by round: the first rise of the cycles that are left is that of all; a flag rises in a round of one cycle only.
-use mathlib.Core.Path.{_≡_, refl, sym, ap, _∙_}
+use mathlib.Core.Path.{_≡_, sym, ap, _∙_}
 use Prim.Native.Nat.{ℕ, _-_, _≤_}
-use mathlib.Core.Bool.{true}
 use native.Mathlib.Omega.{arith}
-use Rattle.machine.specs.Record.{accepted}
 use Rattle.machine.specs.Calls.{firstRise}
 use Rattle.strides.proofs.Rises.{on-none}
-use Rattle.jump.proofs.Rounds.{round-some, round-within, round-accepted, look-here, look-on}
+use Rattle.jump.specs.Rounds.{Ready}
+use Rattle.jump.proofs.Rounds.{round-used, round-ready, look-here, look-on}
 use Rattle.jump.proofs.Idles.{idle-look}
 use borrow.Author.Needs.{needs}
 use Rattle.jump.proofs.first_rise.Statement.{statement}
 use Rattle.jump.proofs.first_rise.Tie as tie
 
 abbrev Inv-loop : tie.InvT-loop
-Inv-loop pins n at₀ done₀ at done = (accepted at ≡ true) × (done ≤ n) × (firstRise done (n - done) pins at ≡ firstRise 0 n pins at₀)
+Inv-loop pins n at₀ done₀ at done = Ready pins at × (done ≤ n) × (firstRise done (n - done) pins at ≡ firstRise 0 n pins at₀)
 
 abbrev μ-loop : tie.MeasureT-loop
 μ-loop pins n at₀ done₀ at done = n - done
@@ -21,48 +20,38 @@ abbrev μ-loop : tie.MeasureT-loop
 loop-holds : tie.Need-loop-holds Inv-loop μ-loop
 loop-holds c = (c .pre .0, omega arith, ap (λ (k : ℕ). firstRise 0 k (c .args .pins) (c .args .d)) (omega arith))
 
-pins-of-requires : tie.Need-pins-of-requires Inv-loop μ-loop
-pins-of-requires c κs = search needs
-
-idles-requires : tie.Need-idles-requires Inv-loop μ-loop
-idles-requires c κs = search needs
-
 returns : tie.Need-returns Inv-loop μ-loop
 returns c =
     let q = c .before in
-    let p = q .before in
-    let w = p .before .before in
-    idle-look (w .before .args .pins) (w .loop .at) (w .loop .inv .0) (p .pins-of .ensures) (q .idles .ensures) (c .if1 .taken) (w .loop .done) (w .before .args .n - w .loop .done) (w .loop .inv .2)
+    let w = q .before .before in
+    idle-look (w .before .args .pins) (w .loop .at) (w .loop .inv .0) (q .idles .ensures) (c .if1 .taken) (w .loop .done) (w .before .args .n - w .loop .done) (w .loop .inv .2)
 
 sub-one-round : tie.Need-sub-one-round Inv-loop μ-loop
 sub-one-round c = omega arith
 
 one-round-requires : tie.Need-one-round-requires Inv-loop μ-loop
-one-round-requires c κs = (c .before .before .before .before .loop .inv .0, omega arith, omega arith)
+one-round-requires c κs = (c .before .before .before .loop .inv .0, omega arith, omega arith)
 
 add-done : tie.Need-add-done Inv-loop μ-loop
-add-done c = omega (arith, round-within _ _ _ (c .before .before .one-round .ensures) (omega arith))
-
-rose-requires : tie.Need-rose-requires Inv-loop μ-loop
-rose-requires c κs = search needs
+add-done c = omega (arith, round-used _ _ _ (c .before .before .one-round .ensures) (omega arith))
 
 returns-2 : tie.Need-returns-2 Inv-loop μ-loop
 returns-2 c = let o = c .before .before .before .before in
-    let t = o .before .before .before .before in
+    let t = o .before .before .before in
     let l = t .before in
-    look-here _ _ _ _ (t .loop-test .taken) (o .one-round .ensures) (l .loop .inv .0) (l .loop .inv .2) (sym (c .before .rose .ensures) ∙ c .if2 .taken)
+    look-here _ _ _ _ (t .loop-test .taken) (o .one-round .ensures) (l .loop .inv .0 .good) (l .loop .inv .2) (sym (c .before .rose .ensures) ∙ c .if2 .taken)
 
 loop-less : tie.Need-loop-less Inv-loop μ-loop
 loop-less c = let o = c .before .before .before .before in
-    omega (arith, round-some _ _ _ (o .one-round .ensures) (omega arith), round-within _ _ _ (o .one-round .ensures) (omega arith))
+    omega (arith, round-used _ _ _ (o .one-round .ensures) (omega arith))
 
 loop-again : tie.Need-loop-again Inv-loop μ-loop
 loop-again c = let o = c .before .before .before .before in
-    let t = o .before .before .before .before in
+    let t = o .before .before .before in
     let l = t .before in (
-      round-accepted _ _ _ (o .one-round .ensures) (omega arith) (l .loop .inv .0),
-      omega (arith, round-within _ _ _ (o .one-round .ensures) (omega arith)),
-      look-on _ _ _ _ (t .loop-test .taken) (o .one-round .ensures) (l .loop .inv .0) (l .loop .inv .2) (sym (c .before .rose .ensures) ∙ c .if2 .left),
+      round-ready _ _ _ (o .one-round .ensures) (omega arith) (l .loop .inv .0),
+      omega (arith, round-used _ _ _ (o .one-round .ensures) (omega arith)),
+      look-on _ _ _ _ (t .loop-test .taken) (o .one-round .ensures) (l .loop .inv .0 .good) (l .loop .inv .2) (sym (c .before .rose .ensures) ∙ c .if2 .left),
     )
 
 returns-3 : tie.Need-returns-3 Inv-loop μ-loop
@@ -71,18 +60,5 @@ returns-3 c = on-none _ _ _ _ (c .before .loop .inv .2) (c .loop-test .left)
 pub first-rise-spec : {M : Type 1} → statement M
 first-rise-spec =
     tie.close
-    (tie.spec
-    Inv-loop
-    μ-loop
-    loop-holds
-    pins-of-requires
-    idles-requires
-    returns
-    sub-one-round
-    one-round-requires
-    add-done
-    rose-requires
-    returns-2
-    loop-less
-    loop-again
-    returns-3)
+    (tie.spec Inv-loop μ-loop loop-holds (search needs) returns sub-one-round one-round-requires add-done
+    (search needs) returns-2 loop-less loop-again returns-3)

@@ -1,9 +1,8 @@
 -- The entries from i on have the same first bad entry as all, since those before are good.
 use mathlib.Core.Path.{_≡_, refl, sym, _∙_}
-use Prim.Native.Nat.{ℕ, _+_, _-_, _≤_}
+use Prim.Native.Nat.{_-_, _≤_}
 use lib.ListN.{length, drop}
 use borrow.Author.Tests.{le-leb, lt-leb}
-use native.Mathlib.Omega.{arith}
 use Rattle.machine.specs.Calls.{firstBad, traceFault}
 use Rattle.jump.proofs.Traces.{bad-end, bad-here, bad-on}
 use borrow.Author.Needs.{needs}
@@ -23,26 +22,11 @@ returns c = simp (lt-leb _ _ (c .if1 .taken))
 loop-holds : tie.Need-loop-holds Inv-loop μ-loop
 loop-holds c = (search needs, search needs, refl)
 
-mul-entry-fault : tie.Need-mul-entry-fault Inv-loop μ-loop
-mul-entry-fault c = search needs
-
-shared-slice-read-entry-fault : tie.Need-shared-slice-read-entry-fault Inv-loop μ-loop
-shared-slice-read-entry-fault c = search needs
-
-entry-fault-requires : tie.Need-entry-fault-requires Inv-loop μ-loop
-entry-fault-requires c κs = search needs
-
 returns-2 : tie.Need-returns-2 Inv-loop μ-loop
 unfolding traceFault
 returns-2 c = let es = c .before .before .before .before .before .before .before .args .entries .now in
     let i = c .before .before .before .before .loop in
     simp (le-leb _ _ (i .inv .1)) (c .before .entry-fault .ensures ∙ (sym (bad-here es (i .i) (search needs) (λ e. c .if2 .taken (c .before .entry-fault .ensures ∙ e))) ∙ i .inv .2))
-
-add-i : tie.Need-add-i Inv-loop μ-loop
-add-i c = search needs
-
-loop-less : tie.Need-loop-less Inv-loop μ-loop
-loop-less c = search needs
 
 loop-again : tie.Need-loop-again Inv-loop μ-loop
 loop-again c = let es = c .before .before .before .before .before .before .before .args .entries .now in
@@ -59,16 +43,5 @@ returns-3 c =
 pub trace-fault-spec : {M : Type 1} → statement M
 trace-fault-spec =
     tie.close
-    (tie.spec
-    Inv-loop
-    μ-loop
-    returns
-    loop-holds
-    mul-entry-fault
-    shared-slice-read-entry-fault
-    entry-fault-requires
-    returns-2
-    add-i
-    loop-less
-    loop-again
-    returns-3)
+    (tie.spec Inv-loop μ-loop returns loop-holds (search needs) (search needs) (search needs) returns-2 (search needs)
+    (search needs) loop-again returns-3)

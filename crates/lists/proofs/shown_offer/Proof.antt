@@ -3,18 +3,6 @@ use borrow.Author.Needs.{needs}
 use Rattle.lists.proofs.shown_offer.Statement.{statement}
 use Rattle.lists.proofs.shown_offer.Tie as tie
 
-enum-known-a : tie.Need-enum-known-a
-enum-known-a c = search needs
-
-enum-known-a-2 : tie.Need-enum-known-a-2
-enum-known-a-2 c = search needs
-
-cast-t6 : tie.Need-cast-t6
-cast-t6 c = search needs
-
-enum-told : tie.Need-enum-told
-enum-told c = search needs
-
 returns : tie.Need-returns
 returns c = simp (c .before .a .given .1)
 
@@ -26,4 +14,5 @@ returns-3 c = simp (c .enum-told .given .1)
 
 pub shown-offer-spec : {M : Type 1} → statement M
 shown-offer-spec =
-    tie.close (tie.spec enum-known-a enum-known-a-2 cast-t6 enum-told returns returns-2 returns-3)
+    tie.close
+    (tie.spec (λ c. search needs) (λ c. search needs) (λ c. search needs) (λ c. search needs) (λ c. search needs) returns returns-2 returns-3)

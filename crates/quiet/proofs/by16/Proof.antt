@@ -8,20 +8,11 @@ use native.Mathlib.Omega.{arith}
 use Rattle.quiet.proofs.by16.Statement.{statement}
 use Rattle.quiet.proofs.by16.Tie as tie
 
-pair16-requires : tie.Need-pair16-requires
-pair16-requires c κs = search needs
-
-add-n : tie.Need-add-n
-add-n c = search needs
-
 cast-t6 : tie.Need-cast-t6
 cast-t6 c = simp bits (omega arith)
-
-cast-t8 : tie.Need-cast-t8
-cast-t8 c = search needs
 
 returns : tie.Need-returns
 returns c = count-eq (low8 (c .pair16 .result + c .before .args .m) ∙ omega arith) (omega arith) refl
 
 pub by16-spec : {M : Type 1} → statement M
-by16-spec = tie.close (tie.spec pair16-requires add-n cast-t6 cast-t8 returns)
+by16-spec = tie.close (tie.spec (search needs) (search needs) cast-t6 (search needs) returns)

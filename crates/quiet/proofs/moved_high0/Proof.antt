@@ -6,9 +6,6 @@ use native.Mathlib.Omega.{arith}
 use Rattle.quiet.proofs.moved_high0.Statement.{statement}
 use Rattle.quiet.proofs.moved_high0.Tie as tie
 
-counts-high0-requires : tie.Need-counts-high0-requires
-counts-high0-requires c κs = search needs
-
 cast-result : tie.Need-cast-result
 cast-result c =
     let h = counting (sym (c .before .counts-high0 .ensures) ∙ c .if1 .taken) (c .before .before .pre) in
@@ -27,4 +24,4 @@ returns-2 c = simp (sym (c .before .counts-high0 .ensures) ∙ c .if1 .left)
 
 pub moved-high0-spec : {M : Type 1} → statement M
 moved-high0-spec =
-    tie.close (tie.spec counts-high0-requires cast-result add-result returns returns-2)
+    tie.close (tie.spec (search needs) cast-result add-result returns returns-2)

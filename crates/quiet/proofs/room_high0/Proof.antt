@@ -4,15 +4,6 @@ use borrow.Author.Needs.{needs}
 use Rattle.quiet.proofs.room_high0.Statement.{statement}
 use Rattle.quiet.proofs.room_high0.Tie as tie
 
-counts-high0-requires : tie.Need-counts-high0-requires
-counts-high0-requires c κs = search needs
-
-cast-result : tie.Need-cast-result
-cast-result c = search needs
-
-sub-result : tie.Need-sub-result
-sub-result c = search needs
-
 returns : tie.Need-returns
 returns c = simp (sym (c .before .before .counts-high0 .ensures) ∙ c .before .if1 .taken)
 
@@ -21,4 +12,4 @@ returns-2 c = simp (sym (c .before .counts-high0 .ensures) ∙ c .if1 .left)
 
 pub room-high0-spec : {M : Type 1} → statement M
 room-high0-spec =
-    tie.close (tie.spec counts-high0-requires cast-result sub-result returns returns-2)
+    tie.close (tie.spec (search needs) (search needs) (search needs) returns returns-2)

@@ -16,12 +16,6 @@ stride2-requires c κs =
     let s = c .before .before .before .before in
     room-timer2 (s .args .m) (s .args .l) (s .args .d) (s .pre)
 
-stride-serial-requires : tie.Need-stride-serial-requires
-stride-serial-requires c κs = search needs
-
-wrapping-add-u64-requires : tie.Need-wrapping-add-u64-requires
-wrapping-add-u64-requires c κs = search needs
-
 returns : tie.Need-returns
 unfolding strideAt
 returns c =
@@ -31,9 +25,4 @@ returns c =
 pub stride-spec : {M : Type 1} → statement M
 stride-spec =
     tie.close
-    (tie.spec
-    stride-timers-requires
-    stride2-requires
-    stride-serial-requires
-    wrapping-add-u64-requires
-    returns)
+    (tie.spec stride-timers-requires stride2-requires (search needs) (search needs) returns)

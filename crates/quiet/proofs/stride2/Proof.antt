@@ -9,15 +9,6 @@ use native.Mathlib.Omega.{arith}
 use Rattle.quiet.proofs.stride2.Statement.{statement}
 use Rattle.quiet.proofs.stride2.Tie as tie
 
-moves2-requires : tie.Need-moves2-requires
-moves2-requires c κs = search needs
-
-baud-rate-requires : tie.Need-baud-rate-requires
-baud-rate-requires c κs = search needs
-
-picked16-requires : tie.Need-picked16-requires
-picked16-requires c κs = search needs
-
 cast-by16 : tie.Need-cast-by16
 cast-by16 c =
     let s = c .before .before in
@@ -53,12 +44,4 @@ returns-2 c =
 pub stride2-spec : {M : Type 1} → statement M
 stride2-spec =
     tie.close
-    (tie.spec
-    moves2-requires
-    baud-rate-requires
-    picked16-requires
-    cast-by16
-    mul-by16
-    by16-requires
-    returns
-    returns-2)
+    (tie.spec (search needs) (search needs) (search needs) cast-by16 mul-by16 by16-requires returns returns-2)

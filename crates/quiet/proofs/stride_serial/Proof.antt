@@ -8,23 +8,19 @@ use native.Mathlib.Omega.{arith}
 use Rattle.quiet.proofs.stride_serial.Statement.{statement}
 use Rattle.quiet.proofs.stride_serial.Tie as tie
 
-ticks2-requires : tie.Need-ticks2-requires
-ticks2-requires c κs = search needs
-
 add-counter : tie.Need-add-counter
 add-counter c =
     let a = c .before .before .args in
     let t = ticks-below (a .m % 16) (a .smod) (a .s .scon) (omega arith) in
     omega (arith, low4 (a .s .send .counter))
 
-picked-requires : tie.Need-picked-requires
-picked-requires c κs = search needs
-
 returns : tie.Need-returns
 unfolding strideSerial sampled
 returns c =
-    let a = c .before .before .before .before .before .before .args in
-    simp (bits, c .before .before .picked .ensures, c .before .before .before .before .ticks2 .ensures, ticks-laps (a .m) (a .smod) (a .s .scon) (a .s .send .counter))
+    let p = c .before .before in
+    let k = p .before .before in
+    let a = k .before .before .args in
+    simp (bits, p .picked .ensures, p .before .mode-of .ensures, k .ticks2 .ensures, ticks-laps (a .m) (a .smod) (a .s .scon) (a .s .send .counter))
 
 pub stride-serial-spec : {M : Type 1} → statement M
-stride-serial-spec = tie.close (tie.spec ticks2-requires add-counter picked-requires returns)
+stride-serial-spec = tie.close (tie.spec (search needs) add-counter (search needs) (search needs) returns)

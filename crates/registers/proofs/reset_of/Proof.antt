@@ -4,12 +4,9 @@ use Rattle.machine.specs.Record.{resetOf}
 use Rattle.registers.proofs.reset_of.Statement.{statement}
 use Rattle.registers.proofs.reset_of.Tie as tie
 
-blank-requires : tie.Need-blank-requires
-blank-requires c κs = search needs
-
 returns : tie.Need-returns
 unfolding resetOf
 returns c = c .blank .ensures
 
 pub reset-of-spec : {M : Type 1} → statement M
-reset-of-spec = tie.close (tie.spec blank-requires returns)
+reset-of-spec = tie.close (tie.spec (search needs) returns)

@@ -3,11 +3,8 @@ use borrow.Author.Needs.{needs}
 use Rattle.registers.proofs.within.Statement.{statement}
 use Rattle.registers.proofs.within.Tie as tie
 
-mask-requires : tie.Need-mask-requires
-mask-requires c κs = search needs
-
 returns : tie.Need-returns
 returns c = cc
 
 pub within-spec : {M : Type 1} → statement M
-within-spec = tie.close (tie.spec mask-requires returns)
+within-spec = tie.close (tie.spec (search needs) returns)

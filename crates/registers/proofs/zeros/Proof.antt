@@ -4,12 +4,9 @@ use Rattle.machine.specs.Record.{zeros}
 use Rattle.registers.proofs.zeros.Statement.{statement}
 use Rattle.registers.proofs.zeros.Tie as tie
 
-blank-requires : tie.Need-blank-requires
-blank-requires c κs = search needs
-
 returns : tie.Need-returns
 unfolding zeros
 returns c = c .blank .ensures
 
 pub zeros-spec : {M : Type 1} → statement M
-zeros-spec = tie.close (tie.spec blank-requires returns)
+zeros-spec = tie.close (tie.spec (search needs) returns)

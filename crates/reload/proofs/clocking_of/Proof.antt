@@ -5,15 +5,9 @@ use borrow.Author.Needs.{needs}
 use Rattle.reload.proofs.clocking_of.Statement.{statement}
 use Rattle.reload.proofs.clocking_of.Tie as tie
 
-clocks-requires : tie.Need-clocks-requires
-clocks-requires c κs = search needs
-
-clocks-requires-2 : tie.Need-clocks-requires-2
-clocks-requires-2 c κs = search needs
-
 returns : tie.Need-returns
 unfolding clockingOf
 returns c = simp (bits, c .before .clocks2 .ensures, c .before .before .clocks .ensures)
 
 pub clocking-of-spec : {M : Type 1} → statement M
-clocking-of-spec = tie.close (tie.spec clocks-requires clocks-requires-2 returns)
+clocking-of-spec = tie.close (tie.spec (search needs) (search needs) returns)

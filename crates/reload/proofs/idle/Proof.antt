@@ -2,7 +2,7 @@
 use mathlib.Core.Path.{_≡_, refl}
 use native.Mathlib.Omega.{arith}
 use Rattle.reload.specs.Reload.{idleCycles, idleAt}
-use Rattle.reload.proofs.Laws.{round-on, round-none}
+use Rattle.reload.proofs.Rounds.{round-on, round-none}
 use borrow.Author.Needs.{needs}
 use Rattle.reload.proofs.idle.Statement.{statement}
 use Rattle.reload.proofs.idle.Tie as tie
@@ -12,12 +12,6 @@ Inv-loop d l n k x₀ left₀ x left = idleCycles left k x ≡ idleCycles n k x�
 
 abbrev μ-loop : tie.MeasureT-loop
 μ-loop d l n k x₀ left₀ x left = left
-
-clocking-of-requires : tie.Need-clocking-of-requires Inv-loop μ-loop
-clocking-of-requires c κs = search needs
-
-idling-of-requires : tie.Need-idling-of-requires Inv-loop μ-loop
-idling-of-requires c κs = search needs
 
 loop-holds : tie.Need-loop-holds Inv-loop μ-loop
 loop-holds c = refl
@@ -38,12 +32,6 @@ loop-less c =
 loop-again : tie.Need-loop-again Inv-loop μ-loop
 loop-again c = round-on (c .before .before .idle-round .ensures) (c .before .before .before .before .loop .inv)
 
-wrapping-add-u64-requires : tie.Need-wrapping-add-u64-requires Inv-loop μ-loop
-wrapping-add-u64-requires c κs = search needs
-
-put-idling-requires : tie.Need-put-idling-requires Inv-loop μ-loop
-put-idling-requires c κs = search needs
-
 returns : tie.Need-returns Inv-loop μ-loop
 unfolding idleAt
 returns c =
@@ -62,16 +50,5 @@ returns c =
 pub idle-spec : {M : Type 1} → statement M
 idle-spec =
     tie.close
-    (tie.spec
-    Inv-loop
-    μ-loop
-    clocking-of-requires
-    idling-of-requires
-    loop-holds
-    idle-round-requires
-    sub-left
-    loop-less
-    loop-again
-    wrapping-add-u64-requires
-    put-idling-requires
-    returns)
+    (tie.spec Inv-loop μ-loop (search needs) (search needs) loop-holds idle-round-requires sub-left loop-less
+    loop-again (search needs) (search needs) returns)

@@ -4,28 +4,10 @@ use Prim.Native.Nat.{_<_}
 use native.Mathlib.Omega.{arith}
 use borrow.Author.Tests.{ne-eqb}
 use Rattle.reload.specs.Reload.{raised}
-use Rattle.reload.proofs.Laws.{round-over, round-up}
+use Rattle.reload.proofs.Rounds.{round-over, round-up}
 use borrow.Author.Needs.{needs}
 use Rattle.reload.proofs.idle_round.Statement.{statement}
 use Rattle.reload.proofs.idle_round.Tie as tie
-
-reloaded-requires : tie.Need-reloaded-requires
-reloaded-requires c κs = search needs
-
-cast-least : tie.Need-cast-least
-cast-least c = search needs
-
-sub-least : tie.Need-sub-least
-sub-least c = search needs
-
-least-requires : tie.Need-least-requires
-least-requires c κs = search needs
-
-cast-up : tie.Need-cast-up
-cast-up c = search needs
-
-add-up : tie.Need-add-up
-add-up c = search needs
 
 returns : tie.Need-returns
 returns c =
@@ -44,12 +26,5 @@ returns-2 c =
 pub idle-round-spec : {M : Type 1} → statement M
 idle-round-spec =
     tie.close
-    (tie.spec
-    reloaded-requires
-    cast-least
-    sub-least
-    least-requires
-    cast-up
-    add-up
-    returns
+    (tie.spec (search needs) (search needs) (search needs) (search needs) (search needs) (search needs) returns
     returns-2)

@@ -1,32 +1,37 @@
--- `idles` is its definition: with TL1 at 0 the room tells whether the device is settled.
-use mathlib.Core.Path.{sym, ap, _∙_}
-use mathlib.Core.Bool.{not}
-use Prim.Native.Nat.{ℕ}
-use lib.Dec.{eqb}
-use borrow.Author.Tests.{not-true, not-false}
-use Rattle.reload.specs.Reload.{idlesAt}
-use Rattle.reload.proofs.Laws.{room-fresh}
+-- `idles` is its definition: Timer 1 is asked first, then the serial port; the masks are the bits, and the calls keep their
+-- contracts.
+use mathlib.Core.Path.{sym, _∙_}
+use mathlib.Core.Bool.{and-false}
 use borrow.Author.Needs.{needs}
+use borrow.Author.Tests.{not-true, not-false}
+use Rattle.laws.proofs.Bits.{bits}
+use Rattle.strides.specs.Stride.{settledAt}
+use Rattle.reload.specs.Reload.{reloadOnly, idlesAt}
 use Rattle.reload.proofs.idles.Statement.{statement}
 use Rattle.reload.proofs.idles.Tie as tie
 
-reload-only-requires : tie.Need-reload-only-requires
-reload-only-requires c κs = search needs
-
 returns : tie.Need-returns
-unfolding idlesAt
-returns c = simp (sym (c .before .reload-only .ensures) ∙ not-true (c .before .reload-only .result) (c .if1 .taken))
-
-room-requires : tie.Need-room-requires
-room-requires c κs = search needs
+unfolding idlesAt reloadOnly
+returns c =
+    let t = c .before .timer1-alone in
+    simp (sym (t .ensures) ∙ not-true (t .result) (c .if1 .taken))
 
 returns-2 : tie.Need-returns-2
-unfolding idlesAt
+unfolding idlesAt settledAt
 returns-2 c =
-    let p = c .before .before .before in
-    let only = sym (p .reload-only .ensures) ∙ not-false (p .reload-only .result) (c .before .before .if1 .left) in
-    let a = p .before .args in
-    simp only (ap (λ (n : ℕ). not (eqb n 0)) (c .room .ensures) ∙ room-fresh (a .l) (a .d) only)
+    let s = c .before .settled-serial in
+    let works = simp bits at (sym (s .ensures) ∙ not-true (s .result) (c .if2 .taken)) in
+    simp (bits, works, and-false)
+
+returns-3 : tie.Need-returns-3
+unfolding idlesAt reloadOnly
+returns-3 c =
+    let r = c .before in
+    let n = r .before .before .before .before .before in
+    let t = n .before .timer1-alone in
+    simp (bits, sym (t .ensures) ∙ not-false (t .result) (n .if1 .left), r .line-rests .ensures, c .settled .ensures)
 
 pub idles-spec : {M : Type 1} → statement M
-idles-spec = tie.close (tie.spec reload-only-requires returns room-requires returns-2)
+idles-spec =
+    tie.close
+    (tie.spec (search needs) returns (search needs) returns-2 (search needs) (search needs) returns-3)

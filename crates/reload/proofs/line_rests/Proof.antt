@@ -1,12 +1,9 @@
--- `line_rests` is its definition: the masks are the bits.
-use Rattle.laws.proofs.Bits.{bits}
+-- `line_rests` is its definition, from the contracts of its calls.
+use borrow.Author.Needs.{needs}
 use Rattle.reload.specs.Reload.{lineRests}
 use Rattle.reload.proofs.line_rests.Statement.{statement}
 use Rattle.reload.proofs.line_rests.Tie as tie
 
-returns : tie.Need-returns
-unfolding lineRests
-returns c = simp bits
-
 pub line-rests-spec : {M : Type 1} → statement M
-line-rests-spec = tie.close (tie.spec returns)
+unfolding lineRests
+line-rests-spec = tie.close (tie.spec (search needs) (search needs) (λ c. cc))

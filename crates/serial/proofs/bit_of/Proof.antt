@@ -4,15 +4,9 @@ use borrow.Author.Needs.{needs}
 use Rattle.serial.proofs.bit_of.Statement.{statement}
 use Rattle.serial.proofs.bit_of.Tie as tie
 
-add-picked : tie.Need-add-picked
-add-picked c = search needs
-
-picked-requires : tie.Need-picked-requires
-picked-requires c κs = search needs
-
 returns : tie.Need-returns
 unfolding bitOf
 returns c = c .picked .ensures
 
 pub bit-of-spec : {M : Type 1} → statement M
-bit-of-spec = tie.close (tie.spec add-picked picked-requires returns)
+bit-of-spec = tie.close (tie.spec (search needs) (search needs) returns)

@@ -8,12 +8,6 @@ use borrow.Author.Needs.{needs}
 use Rattle.serial.proofs.half_after.Statement.{statement}
 use Rattle.serial.proofs.half_after.Tie as tie
 
-wrapping-add-u8-requires : tie.Need-wrapping-add-u8-requires
-wrapping-add-u8-requires c κs = search needs
-
-picked-requires : tie.Need-picked-requires
-picked-requires c κs = search needs
-
 returns : tie.Need-returns
 unfolding halfAfter
 returns c =
@@ -22,4 +16,4 @@ returns c =
     simp (c .picked .ensures, low1, e)
 
 pub half-after-spec : {M : Type 1} → statement M
-half-after-spec = tie.close (tie.spec wrapping-add-u8-requires picked-requires returns)
+half-after-spec = tie.close (tie.spec (search needs) (search needs) returns)

@@ -8,22 +8,10 @@ use borrow.Author.Needs.{needs}
 use Rattle.serial.proofs.line_of.Statement.{statement}
 use Rattle.serial.proofs.line_of.Tie as tie
 
-cast-result : tie.Need-cast-result
-cast-result c = search needs
-
-shr-result : tie.Need-shr-result
-shr-result c = search needs
-
 cast-result-2 : tie.Need-cast-result-2
 cast-result-2 c =
     let s = c .before .before .args .s in
     omega (arith, and-one (s .send .value) (s .send .position - 3))
-
-mode-of-requires : tie.Need-mode-of-requires
-mode-of-requires c κs = search needs
-
-picked-requires : tie.Need-picked-requires
-picked-requires c κs = search needs
 
 returns : tie.Need-returns
 unfolding lineOf
@@ -39,11 +27,4 @@ returns-2 c =
 pub line-of-spec : {M : Type 1} → statement M
 line-of-spec =
     tie.close
-    (tie.spec
-    cast-result
-    shr-result
-    cast-result-2
-    mode-of-requires
-    picked-requires
-    returns
-    returns-2)
+    (tie.spec (search needs) (search needs) cast-result-2 (search needs) (search needs) returns returns-2)

@@ -11,9 +11,6 @@ use borrow.Author.Needs.{needs}
 use Rattle.serial.proofs.receive_bit.Statement.{statement}
 use Rattle.serial.proofs.receive_bit.Tie as tie
 
-picked-requires : tie.Need-picked-requires
-picked-requires c κs = search needs
-
 returns : tie.Need-returns
 unfolding receiveBit
 returns c =
@@ -22,26 +19,11 @@ returns c =
     ∙ cond-ap (λ (q : ℕ). withReceive (receiveAt q (a .s .receive)) (a .s)) (eqb (a .b) 1) 0 (a .s .receive .position)
     ∙ simp (eq-eqb _ _ (c .before .before .if1 .taken))
 
-sub-put-bit : tie.Need-sub-put-bit
-sub-put-bit c = search needs
-
-put-bit-requires : tie.Need-put-bit-requires
-put-bit-requires c κs = search needs
-
 returns-2 : tie.Need-returns-2
 unfolding receiveBit
 returns-2 c =
     let b = c .before .before in
     simp (c .before .put-bit .ensures, ne-eqb _ _ (b .before .if1 .left), le-leb _ _ (b .if2 .taken))
-
-frame-done-requires : tie.Need-frame-done-requires
-frame-done-requires c κs = search needs
-
-mode-of-requires : tie.Need-mode-of-requires
-mode-of-requires c κs = search needs
-
-picked-requires-2 : tie.Need-picked-requires-2
-picked-requires-2 c κs = search needs
 
 returns-3 : tie.Need-returns-3
 unfolding receiveBit
@@ -62,14 +44,5 @@ returns-4 c =
 pub receive-bit-spec : {M : Type 1} → statement M
 receive-bit-spec =
     tie.close
-    (tie.spec
-    picked-requires
-    returns
-    sub-put-bit
-    put-bit-requires
-    returns-2
-    frame-done-requires
-    mode-of-requires
-    picked-requires-2
-    returns-3
-    returns-4)
+    (tie.spec (search needs) returns (search needs) (search needs) returns-2 (search needs) (search needs)
+    (search needs) returns-3 returns-4)

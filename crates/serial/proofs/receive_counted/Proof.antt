@@ -9,15 +9,6 @@ use borrow.Author.Needs.{needs}
 use Rattle.serial.proofs.receive_counted.Statement.{statement}
 use Rattle.serial.proofs.receive_counted.Tie as tie
 
-receive-rolled-requires : tie.Need-receive-rolled-requires
-receive-rolled-requires c κs = search needs
-
-picked-requires : tie.Need-picked-requires
-picked-requires c κs = search needs
-
-wrapping-add-u8-requires : tie.Need-wrapping-add-u8-requires
-wrapping-add-u8-requires c κs = search needs
-
 returns : tie.Need-returns
 unfolding receiveCounted
 returns c =
@@ -27,5 +18,4 @@ returns c =
     simp (c .before .picked .ensures, c .before .before .before .receive-rolled .ensures, e)
 
 pub receive-counted-spec : {M : Type 1} → statement M
-receive-counted-spec =
-    tie.close (tie.spec receive-rolled-requires picked-requires wrapping-add-u8-requires returns)
+receive-counted-spec = tie.close (tie.spec (search needs) (search needs) (search needs) returns)

@@ -1,4 +1,5 @@
--- `serial::receive_each` is receiveTicks: the ticks that are left, done from here, end where all of them from the start end.
+-- `serial::receive_each` is receiveTicks: the ticks that are left, done from here, end where all of them from the
+-- start end.
 use mathlib.Core.Path.{_≡_, refl, ap, sym, subst, _∙_}
 use borrow.Author.Needs.{needs}
 use Prim.Native.Nat.{ℕ, zero, suc, _-_, _<_}

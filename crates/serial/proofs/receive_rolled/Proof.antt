@@ -4,18 +4,9 @@ use borrow.Author.Needs.{needs}
 use Rattle.serial.proofs.receive_rolled.Statement.{statement}
 use Rattle.serial.proofs.receive_rolled.Tie as tie
 
-mode-of-requires : tie.Need-mode-of-requires
-mode-of-requires c κs = search needs
-
-add-picked : tie.Need-add-picked
-add-picked c = search needs
-
-picked-requires : tie.Need-picked-requires
-picked-requires c κs = search needs
-
 returns : tie.Need-returns
 unfolding receiveRolled
 returns c = simp (c .picked .ensures, c .before .mode-of .ensures)
 
 pub receive-rolled-spec : {M : Type 1} → statement M
-receive-rolled-spec = tie.close (tie.spec mode-of-requires add-picked picked-requires returns)
+receive-rolled-spec = tie.close (tie.spec (search needs) (search needs) (search needs) returns)

@@ -5,18 +5,15 @@ use borrow.Author.Needs.{needs}
 use Rattle.serial.proofs.receive_start.Statement.{statement}
 use Rattle.serial.proofs.receive_start.Tie as tie
 
-starts-requires : tie.Need-starts-requires
-starts-requires c κs = search needs
-
 returns : tie.Need-returns
 unfolding receiveStart
 returns c =
     let b = c .before .before .before in
-    simp (sym (b .before .starts .ensures) ∙ b .if1 .taken)
+    simp (sym (b .before .start-found .ensures) ∙ b .if1 .taken)
 
 returns-2 : tie.Need-returns-2
 unfolding receiveStart
-returns-2 c = simp (sym (c .before .starts .ensures) ∙ c .if1 .left)
+returns-2 c = simp (sym (c .before .start-found .ensures) ∙ c .if1 .left)
 
 pub receive-start-spec : {M : Type 1} → statement M
-receive-start-spec = tie.close (tie.spec starts-requires returns returns-2)
+receive-start-spec = tie.close (tie.spec (search needs) returns returns-2)

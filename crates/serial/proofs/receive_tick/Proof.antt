@@ -5,16 +5,10 @@ use borrow.Author.Needs.{needs}
 use Rattle.serial.proofs.receive_tick.Statement.{statement}
 use Rattle.serial.proofs.receive_tick.Tie as tie
 
-receive-start-requires : tie.Need-receive-start-requires
-receive-start-requires c κs = search needs
-
 returns : tie.Need-returns
 unfolding receiveTick
 returns c =
     simp (c .before .receive-start .ensures, eq-eqb _ _ (c .before .before .if1 .taken))
-
-receive-work-requires : tie.Need-receive-work-requires
-receive-work-requires c κs = search needs
 
 returns-2 : tie.Need-returns-2
 unfolding receiveTick
@@ -22,5 +16,4 @@ returns-2 c =
     simp (c .before .receive-work .ensures, ne-eqb _ _ (c .before .before .if1 .left))
 
 pub receive-tick-spec : {M : Type 1} → statement M
-receive-tick-spec =
-    tie.close (tie.spec receive-start-requires returns receive-work-requires returns-2)
+receive-tick-spec = tie.close (tie.spec (search needs) returns (search needs) returns-2)

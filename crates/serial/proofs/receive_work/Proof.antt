@@ -9,9 +9,6 @@ use borrow.Author.Needs.{needs}
 use Rattle.serial.proofs.receive_work.Statement.{statement}
 use Rattle.serial.proofs.receive_work.Tie as tie
 
-receive-counted-requires : tie.Need-receive-counted-requires
-receive-counted-requires c κs = search needs
-
 returns : tie.Need-returns
 unfolding receiveWork
 returns c =
@@ -59,12 +56,5 @@ returns-4 c =
 pub receive-work-spec : {M : Type 1} → statement M
 receive-work-spec =
     tie.close
-    (tie.spec
-    receive-counted-requires
-    returns
-    votes-added-requires
-    returns-2
-    bit-of-requires
-    receive-bit-requires
-    returns-3
-    returns-4)
+    (tie.spec (search needs) returns votes-added-requires returns-2 bit-of-requires receive-bit-requires
+    returns-3 returns-4)

@@ -7,12 +7,6 @@ use borrow.Author.Needs.{needs}
 use Rattle.serial.proofs.rolls_twice.Statement.{statement}
 use Rattle.serial.proofs.rolls_twice.Tie as tie
 
-add-result : tie.Need-add-result
-add-result c = search needs
-
-add-result-2 : tie.Need-add-result-2
-add-result-2 c = search needs
-
 returns : tie.Need-returns
 returns c rxd =
     let a = c .before .before .before .before in
@@ -24,4 +18,4 @@ returns c rxd =
     )
 
 pub rolls-twice-spec : {M : Type 1} → statement M
-rolls-twice-spec = tie.close (tie.spec add-result add-result-2 returns)
+rolls-twice-spec = tie.close (tie.spec (search needs) (search needs) returns)

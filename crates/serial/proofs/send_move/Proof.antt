@@ -11,17 +11,11 @@ returns : tie.Need-returns
 unfolding sendMove
 returns c = simp (eq-eqb _ _ (c .if1 .taken))
 
-last-position-requires : tie.Need-last-position-requires
-last-position-requires c κs = search needs
-
 returns-2 : tie.Need-returns-2
 unfolding sendMove
 returns-2 c =
     let b = c .before .before .before in
     simp (ne-eqb _ _ (b .before .if1 .left), eq-eqb _ _ (c .before .before .if2 .taken ∙ b .last-position .ensures), or-bit (b .before .before .args .s .scon) 1)
-
-add-next : tie.Need-add-next
-add-next c = search needs
 
 returns-3 : tie.Need-returns-3
 unfolding sendMove
@@ -30,4 +24,4 @@ returns-3 c =
     simp (ne-eqb _ _ (b .before .if1 .left), ne-eqb _ _ (λ e. c .before .if2 .left (e ∙ sym (b .last-position .ensures))))
 
 pub send-move-spec : {M : Type 1} → statement M
-send-move-spec = tie.close (tie.spec returns last-position-requires returns-2 add-next returns-3)
+send-move-spec = tie.close (tie.spec returns (search needs) returns-2 (search needs) returns-3)

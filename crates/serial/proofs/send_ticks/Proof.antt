@@ -10,12 +10,6 @@ use borrow.Author.Needs.{needs}
 use Rattle.serial.proofs.send_ticks.Statement.{statement}
 use Rattle.serial.proofs.send_ticks.Tie as tie
 
-add-counted : tie.Need-add-counted
-add-counted c = search needs
-
-send-move-requires : tie.Need-send-move-requires
-send-move-requires c κs = search needs
-
 returns : tie.Need-returns
 returns c =
     let a = c .before .before .before .before .args in
@@ -32,4 +26,4 @@ returns-2 c =
     ap (λ (k : ℕ). sendCounter k (a .s)) e ∙ sym (ticks-count (a .n) (a .s) (omega arith))
 
 pub send-ticks-spec : {M : Type 1} → statement M
-send-ticks-spec = tie.close (tie.spec add-counted send-move-requires returns returns-2)
+send-ticks-spec = tie.close (tie.spec (search needs) (search needs) returns returns-2)

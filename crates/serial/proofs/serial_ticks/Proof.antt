@@ -5,21 +5,6 @@ use borrow.Author.Needs.{needs}
 use Rattle.serial.proofs.serial_ticks.Statement.{statement}
 use Rattle.serial.proofs.serial_ticks.Tie as tie
 
-mode-of-requires : tie.Need-mode-of-requires
-mode-of-requires c κs = search needs
-
-ticks1-requires : tie.Need-ticks1-requires
-ticks1-requires c κs = search needs
-
-ticks-of-requires : tie.Need-ticks-of-requires
-ticks-of-requires c κs = search needs
-
-ticks-of-requires-2 : tie.Need-ticks-of-requires-2
-ticks-of-requires-2 c κs = search needs
-
-half-after-requires : tie.Need-half-after-requires
-half-after-requires c κs = search needs
-
 returns : tie.Need-returns
 unfolding serialTicks
 returns c =
@@ -28,11 +13,4 @@ returns c =
 
 pub serial-ticks-spec : {M : Type 1} → statement M
 serial-ticks-spec =
-    tie.close
-    (tie.spec
-    mode-of-requires
-    ticks1-requires
-    ticks-of-requires
-    ticks-of-requires-2
-    half-after-requires
-    returns)
+    tie.close (tie.spec (search needs) (search needs) (search needs) (search needs) (search needs) returns)

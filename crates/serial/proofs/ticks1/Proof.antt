@@ -4,15 +4,9 @@ use borrow.Author.Needs.{needs}
 use Rattle.serial.proofs.ticks1.Statement.{statement}
 use Rattle.serial.proofs.ticks1.Tie as tie
 
-picked-requires : tie.Need-picked-requires
-picked-requires c κs = search needs
-
-picked-requires-2 : tie.Need-picked-requires-2
-picked-requires-2 c κs = search needs
-
 returns : tie.Need-returns
 unfolding ticks1
 returns c = simp (c .picked2 .ensures, c .before .picked .ensures)
 
 pub ticks1-spec : {M : Type 1} → statement M
-ticks1-spec = tie.close (tie.spec picked-requires picked-requires-2 returns)
+ticks1-spec = tie.close (tie.spec (search needs) (search needs) returns)

@@ -1,24 +1,20 @@
 -- `serial::write_scon` is writeScon: the two tests are its conditions, and each position is picked by them.
 use mathlib.Core.Path.{_≡_, refl, ap, sym, _∙_}
-use mathlib.Core.Bool.{Bool, true, false, cond, _&&_}
+use mathlib.Core.Bool.{Bool, true, false, cond}
 use Prim.Native.Nat.{ℕ}
 use lib.Dec.{eqb}
 use borrow.Author.Needs.{needs}
 use Rattle.machine.specs.declared.Serial.{Serial}
-use Rattle.machine.specs.Bits.{bit}
 use Rattle.machine.specs.Record.{serialMode}
-use Rattle.machine.specs.Registers.{REN, RI}
 use Rattle.machine.specs.Serial.{withSend, withReceive, sendAt, receiveAt, receiveAsked, writeScon}
 use Rattle.laws.proofs.Bits.{low1}
+use Rattle.serial.proofs.Receiving.{asked}
 use Rattle.serial.proofs.write_scon.Statement.{statement}
 use Rattle.serial.proofs.write_scon.Tie as tie
 
 -- SCON v, and the two positions
 written : ℕ → ℕ → ℕ → Serial → Serial
 written v p q s = withReceive (receiveAt q (s .receive)) (withSend v (sendAt p (s .send)) s)
-
-asked : ℕ → ℕ → Bool
-asked v p = (eqb (serialMode v) 0 && eqb (bit REN v) 1) && (eqb (bit RI v) 0 && eqb p 0)
 
 by-asked : (a : Bool) (s : Serial) → cond a (withReceive (receiveAt 1 (s .receive)) s) s ≡ withReceive (receiveAt (cond a 1 (s .receive .position)) (s .receive)) s
 by-asked true s = refl
@@ -35,30 +31,15 @@ picks : (v : ℕ) (s : Serial) (p q r : ℕ)
     → q ≡ cond (eqb (serialMode v) (serialMode (s .scon))) (s .receive .position) 0
     → r ≡ cond (asked v q) 1 q
     → written v p r s ≡ writeScon v s
-unfolding written asked writeScon receiveAsked
+unfolding written writeScon receiveAsked
 picks v s p q r e f g =
     (λ i. written v p (g i) s)
     ∙ sym
     (ap receiveAsked (by-mode (eqb (serialMode v) (serialMode (s .scon))) v s ∙ λ i. written v (sym e i) (sym f i) s)
     ∙ by-asked (asked v q) (written v p q s))
 
-mode-of-requires : tie.Need-mode-of-requires
-mode-of-requires c κs = search needs
-
-mode-of-requires-2 : tie.Need-mode-of-requires-2
-mode-of-requires-2 c κs = search needs
-
-picked-requires : tie.Need-picked-requires
-picked-requires c κs = search needs
-
-picked-requires-2 : tie.Need-picked-requires-2
-picked-requires-2 c κs = search needs
-
-picked-requires-3 : tie.Need-picked-requires-3
-picked-requires-3 c κs = search needs
-
 returns : tie.Need-returns
-unfolding written asked
+unfolding written
 returns c =
     let d = c .before .before in
     let e = d .before in
@@ -72,11 +53,4 @@ returns c =
 
 pub write-scon-spec : {M : Type 1} → statement M
 write-scon-spec =
-    tie.close
-    (tie.spec
-    mode-of-requires
-    mode-of-requires-2
-    picked-requires
-    picked-requires-2
-    picked-requires-3
-    returns)
+    tie.close (tie.spec (search needs) (search needs) (search needs) (search needs) (search needs) returns)

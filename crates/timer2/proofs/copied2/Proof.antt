@@ -6,15 +6,6 @@ use borrow.Author.Needs.{needs}
 use Rattle.timer2.proofs.copied2.Statement.{statement}
 use Rattle.timer2.proofs.copied2.Tie as tie
 
-captures-requires : tie.Need-captures-requires
-captures-requires c κs = search needs
-
-picked-requires : tie.Need-picked-requires
-picked-requires c κs = search needs
-
-picked-requires-2 : tie.Need-picked-requires-2
-picked-requires-2 c κs = search needs
-
 returns : tie.Need-returns
 unfolding copied2
 returns c =
@@ -23,4 +14,4 @@ returns c =
     (copied-by-bytes (captures t) t (omega arith) (omega arith))
 
 pub copied2-spec : {M : Type 1} → statement M
-copied2-spec = tie.close (tie.spec captures-requires picked-requires picked-requires-2 returns)
+copied2-spec = tie.close (tie.spec (search needs) (search needs) (search needs) returns)

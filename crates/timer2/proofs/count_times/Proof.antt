@@ -1,10 +1,12 @@
--- `count_times` is n counts in turn: what is left, counted from the number that it was last added to, ends where n counts from the
--- start end. The sum wraps where the counts left reach past FFFF, and is then what is left past the overflow.
-use mathlib.Core.Path.{_≡_, refl, sym, ap, _∙_}
+-- `count_times` is n counts in turn: what is left, counted from the number that it was last added to, ends where n
+-- counts from the start end. The sum wraps where the counts left reach past FFFF, and is then what is left past the
+-- overflow.
+use mathlib.Core.Path.{_≡_, sym, ap, _∙_}
 use Prim.Native.Nat.{ℕ, _+_, _-_, _%_, _≤_, _<_}
 use native.Mathlib.Omega.{arith}
 use borrow.Author.Needs.{needs}
 use Rattle.machine.specs.Timer2.{countTimes}
+use Rattle.laws.specs.Counting.{lapFrom}
 use Rattle.timer2.proofs.Laws.{at, countTimes-on, countTimes-over}
 use Rattle.timer2.proofs.count_times.Statement.{statement}
 use Rattle.timer2.proofs.count_times.Tie as tie
@@ -20,9 +22,6 @@ Inv-loop n reload from left₀ count₀ overflows₀ left count overflows =
 abbrev μ-loop : tie.MeasureT-loop
 μ-loop n reload from left₀ count₀ overflows₀ left count overflows = left
 
-wrapping-add-u16-requires : tie.Need-wrapping-add-u16-requires Inv-loop μ-loop
-wrapping-add-u16-requires c κs = search needs
-
 -- a sum less what was added
 unadded : (a left count : ℕ) → a < 65536 → left < 65536 → count ≡ (a + left) % 65536 → start left count ≡ a
 unadded a left count h l e = omega arith
@@ -32,9 +31,6 @@ loop-holds c =
     let a = c .before .args in
     let e = c .wrapping-add-u16 .ensures in
     (ap (λ (k : ℕ). countTimes (a .n) (a .reload) (at k 0)) (unadded (a .from) (a .n) _ (omega arith) (omega arith) e), omega arith, omega arith)
-
-wrapping-add-u16-requires-2 : tie.Need-wrapping-add-u16-requires-2 Inv-loop μ-loop
-wrapping-add-u16-requires-2 c κs = search needs
 
 add-overflows : tie.Need-add-overflows Inv-loop μ-loop
 add-overflows c = omega arith
@@ -46,7 +42,7 @@ loop-less c = omega arith
 wrapped : (left count reload o : ℕ) → count < left → left < 65536
     → countTimes left reload (at (start left count) o) ≡ countTimes count reload (at reload (o + 1))
 wrapped left count reload o h l =
-    let e : left - (65535 - start left count) - 1 ≡ count = omega arith in
+    let e : left - lapFrom 16 (start left count) ≡ count = omega arith in
     countTimes-over left reload (start left count) o (omega arith) (omega arith)
     ∙ ap (λ (k : ℕ). countTimes k reload (at reload (o + 1))) e
 
@@ -75,13 +71,5 @@ returns c =
 pub count-times-spec : {M : Type 1} → statement M
 count-times-spec =
     tie.close
-    (tie.spec
-    Inv-loop
-    μ-loop
-    wrapping-add-u16-requires
-    loop-holds
-    wrapping-add-u16-requires-2
-    add-overflows
-    loop-less
-    loop-again
+    (tie.spec Inv-loop μ-loop (search needs) loop-holds (search needs) add-overflows loop-less loop-again
     returns)

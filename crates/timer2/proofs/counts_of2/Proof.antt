@@ -5,15 +5,9 @@ use borrow.Author.Needs.{needs}
 use Rattle.timer2.proofs.counts_of2.Statement.{statement}
 use Rattle.timer2.proofs.counts_of2.Tie as tie
 
-picked-requires : tie.Need-picked-requires
-picked-requires c κs = search needs
-
-picked-requires-2 : tie.Need-picked-requires-2
-picked-requires-2 c κs = search needs
-
 returns : tie.Need-returns
 unfolding countsOf2
 returns c = simp (c .picked2 .ensures, c .before .before .picked .ensures, bits)
 
 pub counts-of2-spec : {M : Type 1} → statement M
-counts-of2-spec = tie.close (tie.spec picked-requires picked-requires-2 returns)
+counts-of2-spec = tie.close (tie.spec (search needs) (search needs) returns)

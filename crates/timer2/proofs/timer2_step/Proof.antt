@@ -7,15 +7,6 @@ use borrow.Author.Needs.{needs}
 use Rattle.timer2.proofs.timer2_step.Statement.{statement}
 use Rattle.timer2.proofs.timer2_step.Tie as tie
 
-baud-rate-requires : tie.Need-baud-rate-requires
-baud-rate-requires c κs = search needs
-
-baud-step-requires : tie.Need-baud-step-requires
-baud-step-requires c κs = search needs
-
-capture-step-requires : tie.Need-capture-step-requires
-capture-step-requires c κs = search needs
-
 returns : tie.Need-returns
 unfolding timer2Step
 returns c =
@@ -33,12 +24,4 @@ unfolding timer2Step
 returns-3 c = simp (ne-eqb _ _ (simp bits at (c .if1 .left)))
 
 pub timer2-step-spec : {M : Type 1} → statement M
-timer2-step-spec =
-    tie.close
-    (tie.spec
-    baud-rate-requires
-    baud-step-requires
-    capture-step-requires
-    returns
-    returns-2
-    returns-3)
+timer2-step-spec = tie.close (tie.spec (search needs) (search needs) (search needs) returns returns-2 returns-3)

@@ -8,11 +8,8 @@ use Rattle.timer2.proofs.with_count2.Tie as tie
 cast-t4 : tie.Need-cast-t4
 cast-t4 c = record { fits = mask-lt (c .args .n) 8 }
 
-cast-t6 : tie.Need-cast-t6
-cast-t6 c = search needs
-
 returns : tie.Need-returns
 returns c = simp bits
 
 pub with-count2-spec : {M : Type 1} → statement M
-with-count2-spec = tie.close (tie.spec cast-t4 cast-t6 returns)
+with-count2-spec = tie.close (tie.spec cast-t4 (search needs) returns)

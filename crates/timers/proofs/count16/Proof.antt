@@ -1,36 +1,26 @@
--- `count16` is its definition: the joined pair is one number of 16 bits, and it carries by the law `carry`.
-use Rattle.laws.proofs.Counting.{carry, count-eq}
-use Rattle.laws.proofs.Bits.{low8, join16}
-use Prim.Native.Nat.{_+_, _*_}
-use mathlib.Core.Path.{_∙_}
-use Rattle.machine.specs.Counting.{count16}
+-- `count16` is its definition: the sum over the pair wraps as a count of 16 bits does, and carries where it is zero.
+use mathlib.Core.Path.{_≡_, ap, _∙_}
+use Prim.Native.Nat.{ℕ, _/_, _%_}
 use native.Mathlib.Omega.{arith}
+use Rattle.laws.proofs.Bits.{bits, low8}
+use Rattle.laws.proofs.Counting.{carry, count-eq}
+use Rattle.machine.specs.Counting.{next, pair16, count16}
 use borrow.Author.Needs.{needs}
 use Rattle.timers.proofs.count16.Statement.{statement}
 use Rattle.timers.proofs.count16.Tie as tie
 
-wrapping-add-u16-requires : tie.Need-wrapping-add-u16-requires
-wrapping-add-u16-requires c κs = search needs
-
-cast-t8 : tie.Need-cast-t8
-cast-t8 c = omega (arith, low8 (c .wrapping-add-u16 .result))
-
-cast-t9 : tie.Need-cast-t9
-cast-t9 c = search needs
-
-picked-requires : tie.Need-picked-requires
-picked-requires c κs = search needs
+cast-t5 : tie.Need-cast-t5
+cast-t5 c = simp bits (omega arith)
 
 returns : tie.Need-returns
 unfolding count16
 returns c =
-    let a = c .before .before .args in
-    let n = c .before .wrapping-add-u16 in
-    let w = join16 (a .th) (a .tl) (omega arith) (omega arith) in
-    let l = low8 (n .result) in
-    count-eq (omega arith) (omega arith)
-    (c .picked .ensures ∙ simp (n .ensures, w) (carry 16 (a .th * 256 + a .tl) (omega arith)))
+    let b = c .before in
+    let a = b .before .before .args in
+    let n = pair16 (a .tl) (a .th) in
+    let e : b .wrapping-add-u16 .result ≡ next 16 n = simp (b .before .pair16 .ensures) at (b .wrapping-add-u16 .ensures) in
+    count-eq (low8 (b .wrapping-add-u16 .result) ∙ ap (λ (m : ℕ). m % 256) e) (ap (λ (m : ℕ). m / 256) e)
+    (c .picked .ensures ∙ simp e (carry 16 n (omega arith)))
 
 pub count16-spec : {M : Type 1} → statement M
-count16-spec =
-    tie.close (tie.spec wrapping-add-u16-requires cast-t8 cast-t9 picked-requires returns)
+count16-spec = tie.close (tie.spec (search needs) (search needs) cast-t5 (search needs) (search needs) returns)

@@ -5,15 +5,6 @@ use borrow.Author.Needs.{needs}
 use Rattle.timers.proofs.count_in.Statement.{statement}
 use Rattle.timers.proofs.count_in.Tie as tie
 
-count13-requires : tie.Need-count13-requires
-count13-requires c κs = search needs
-
-count16-requires : tie.Need-count16-requires
-count16-requires c κs = search needs
-
-reload8-requires : tie.Need-reload8-requires
-reload8-requires c κs = search needs
-
 returns : tie.Need-returns
 unfolding countIn
 returns c = simp (c .count13 .ensures, c .before .match .keys1)
@@ -32,12 +23,4 @@ returns-4 c = simp (ne-eqb _ _ (c .match .rest .0 .0 .1), ne-eqb _ _ (c .match .
 
 pub count-in-spec : {M : Type 1} → statement M
 count-in-spec =
-    tie.close
-    (tie.spec
-    count13-requires
-    count16-requires
-    reload8-requires
-    returns
-    returns-2
-    returns-3
-    returns-4)
+    tie.close (tie.spec (search needs) (search needs) (search needs) returns returns-2 returns-3 returns-4)

@@ -5,15 +5,9 @@ use borrow.Author.Needs.{needs}
 use Rattle.timers.proofs.counts0.Statement.{statement}
 use Rattle.timers.proofs.counts0.Tie as tie
 
-enabled-requires : tie.Need-enabled-requires
-enabled-requires c κs = search needs
-
-clocked-requires : tie.Need-clocked-requires
-clocked-requires c κs = search needs
-
 returns : tie.Need-returns
 unfolding counts0
 returns c = simp (bits, c .clocked .ensures, c .before .before .enabled .ensures)
 
 pub counts0-spec : {M : Type 1} → statement M
-counts0-spec = tie.close (tie.spec enabled-requires clocked-requires returns)
+counts0-spec = tie.close (tie.spec (search needs) (search needs) returns)

@@ -1,0 +1,127 @@
+-- Cycles in a row of a device that idles: it goes on idling, its room is what TL1 has left, and no flag rises; by
+-- induction.
+use Prim.Native.Nat.{ℕ, zero, suc, _+_, _%_, _^_}
+use mathlib.Core.Path.{_≡_, refl, sym, ap, _∙_, subst}
+use mathlib.Core.Bool.{Bool, true, false, _&&_, and-false}
+use lib.Dec.{eqb}
+use Rattle.machine.specs.declared.Device.{Device}
+use Rattle.machine.specs.declared.LookAnswer.the-variants.{Nothing}
+use Rattle.machine.specs.Bits.{bit}
+use Rattle.machine.specs.Registers.{RXD, REN}
+use Rattle.machine.specs.Record.{pinsOf}
+use Rattle.machine.specs.Timers.{counts0, counts1, countsHigh0}
+use Rattle.machine.specs.Serial.{startFound}
+use Rattle.machine.specs.Flags.{flags, anyRises}
+use Rattle.machine.specs.Cycle.{cycleOf, cycles}
+use Rattle.machine.specs.Calls.{rises, firstRise}
+use Rattle.laws.specs.Ranges.{Ranges}
+use Rattle.laws.proofs.Choices.{chosen, and-right, and-both}
+use Rattle.cycle.proofs.Keeps.{cycle-ranges}
+use Rattle.strides.specs.Stride.{timersSettled, serialSettled, othersSettled, settledAt, left, room}
+use Rattle.strides.proofs.Bools.{never-both}
+use Rattle.strides.proofs.Runs.{number-none, number-more}
+use Rattle.strides.proofs.Settles.{settled-rest, rest-settled}
+use Rattle.strides.proofs.Rises.{none-rises}
+use Rattle.reload.specs.Reload.{idlesAt, clockingOf, idlingOf, ticksBy, reloaded, withPort, putIdling, raised, idleCycle, idleCycles, idleAt}
+use Rattle.reload.specs.declared.Clocking.{Clocking}
+use Rattle.reload.specs.declared.Idling.{Idling}
+use Rattle.reload.proofs.Alone.{Idle, idles-idle, room-idle}
+use Rattle.reload.proofs.Step.{steps-idle}
+
+-- a cycle leaves no start bit to be found
+cycle-starts : (ren : Bool) (k : Clocking) (x : Idling) → (ren && (eqb (x .sample) 1 && eqb (k .rxd) 0)) ≡ false
+    → (ren && (eqb (idleCycle k x .sample) 1 && eqb (k .rxd) 0)) ≡ false
+unfolding idleCycle reloaded raised
+cycle-starts ren k x w =
+    chosen (λ (y : Idling). None (y .sample)) (eqb (x .tl1) 255) (reloaded k x) (raised 1 x)
+    (chosen None (eqb (ticksBy (k .receives) k x) 0) (x .sample) (k .rxd) w (simp (never-both, and-false))) w
+  where
+    None : ℕ → Type 0
+    None sample = (ren && (eqb sample 1 && eqb (k .rxd) 0)) ≡ false
+
+-- the device idles on
+put-idle : (l n : ℕ) (x : Idling) (d : Device) → Idle l d → startFound (bit RXD l) (withPort x (d .serial)) ≡ false
+    → Idle l (putIdling n x d)
+unfolding putIdling counts0 counts1 countsHigh0 settledAt othersSettled timersSettled serialSettled
+put-idle l n x d f w =
+    record {
+      alone =
+          record {
+            counts = f .alone .counts;
+            reloads = f .alone .reloads;
+            flag = f .alone .flag;
+            low = f .alone .low;
+            high = f .alone .high;
+          };
+      stops = f .stops;
+      two = f .two;
+      starts = w;
+      rest =
+          settled-rest l (putIdling n x d)
+          (and-both (serialSettled (bit RXD l) (withPort x (d .serial))) (othersSettled l d) (simp (f .two, f .rest .sends, f .rest .receives))
+          (and-right (serialSettled (bit RXD l) (d .serial)) (othersSettled l d) (rest-settled l d (f .rest))));
+    }
+
+module _ (pins : ℕ) (d : Device) (r : Ranges d) (f : Idle (pinsOf (d .kind) pins) d) where
+  -- the device after a cycle
+  next : Device
+  next =
+      let l = pinsOf (d .kind) pins in
+      putIdling ((d .cycle + 1) % 2 ^ 64) (idleCycle (clockingOf l d) (idlingOf d)) d
+
+  cycle-next : cycleOf pins d ≡ next
+  unfolding cycleOf next
+  cycle-next = steps-idle (pinsOf (d .kind) pins) d r f
+
+  next-idle : Idle (pinsOf (next .kind) pins) next
+  unfolding next startFound clockingOf putIdling
+  next-idle =
+      let l = pinsOf (d .kind) pins in
+      put-idle l ((d .cycle + 1) % 2 ^ 64) (idleCycle (clockingOf l d) (idlingOf d)) d f
+      (cycle-starts (eqb (bit REN (d .serial .scon)) 1) (clockingOf l d) (idlingOf d) (f .starts))
+
+  cycle-idle : Idle (pinsOf (cycleOf pins d .kind) pins) (cycleOf pins d)
+  cycle-idle = subst (λ (e : Device). Idle (pinsOf (e .kind) pins) e) (sym cycle-next) next-idle
+
+  -- no flag rises in it
+  cycle-rises : rises pins d ≡ false
+  unfolding flags next putIdling
+  cycle-rises = ap (λ (e : Device). anyRises (flags d) (flags e)) cycle-next ∙ none-rises (flags d)
+
+idle-cycles : (n pins : ℕ) (d : Device) → Ranges d → Idle (pinsOf (d .kind) pins) d
+    → cycles n pins d ≡ idleAt n (pinsOf (d .kind) pins) d
+unfolding cycles idleAt idleCycles next putIdling clockingOf
+idle-cycles zero pins d r f = λ i. putIdling (sym (number-none (d .cycle) (r .cycle)) i) (idlingOf d) d
+idle-cycles (suc n) pins d r f =
+    let l = pinsOf (d .kind) pins in
+    let k = clockingOf l d in
+    idle-cycles n pins (cycleOf pins d) (cycle-ranges d r pins) (cycle-idle pins d r f)
+    ∙ (ap (λ (e : Device). idleAt n (pinsOf (e .kind) pins) e) (cycle-next pins d r f)
+    ∙ (λ i. putIdling (number-more n (d .cycle) i) (idleCycles n k (idleCycle k (idlingOf d))) d))
+
+-- n cycles of a device that idles
+pub idle-law : (n pins : ℕ) (d : Device) → Ranges d → idlesAt (pinsOf (d .kind) pins) d ≡ true
+    → cycles n pins d ≡ idleAt n (pinsOf (d .kind) pins) d
+idle-law n pins d r e = idle-cycles n pins d r (idles-idle (pinsOf (d .kind) pins) d e)
+
+-- it goes on idling, and its room is the counts of TL1 before the reload
+idle-stays : (n pins : ℕ) (d : Device) → Ranges d → Idle (pinsOf (d .kind) pins) d
+    → Idle (pinsOf (cycles n pins d .kind) pins) (cycles n pins d)
+unfolding cycles
+idle-stays zero pins d r f = f
+idle-stays (suc n) pins d r f = idle-stays n pins (cycleOf pins d) (cycle-ranges d r pins) (cycle-idle pins d r f)
+
+pub idle-room : (n pins : ℕ) (d : Device) → Ranges d → idlesAt (pinsOf (d .kind) pins) d ≡ true
+    → room pins (cycles n pins d) ≡ left 8 (idleCycles n (clockingOf (pinsOf (d .kind) pins) d) (idlingOf d) .tl1)
+unfolding room idleAt putIdling
+idle-room n pins d r e =
+    let there = cycles n pins d in
+    room-idle (pinsOf (there .kind) pins) there (idle-stays n pins d r (idles-idle (pinsOf (d .kind) pins) d e))
+    ∙ ap (λ (u : Device). left 8 (u .timers .tl1)) (idle-law n pins d r e)
+
+-- no flag rises in them
+pub idle-rises : (j n pins : ℕ) (d : Device) → Ranges d → Idle (pinsOf (d .kind) pins) d → firstRise j n pins d ≡ Nothing
+unfolding firstRise
+idle-rises j zero pins d r f = refl
+idle-rises j (suc n) pins d r f =
+    rw (cycle-rises pins d r f) (idle-rises (suc j) n pins (cycleOf pins d) (cycle-ranges d r pins) (cycle-idle pins d r f))

@@ -1,4 +1,0 @@
-pub mod Lines
-pub mod Records
-pub mod Requests
-pub mod Answers

@@ -1,0 +1,72 @@
+//! What is answered, as text: a line for each.
+use c51::{call, AnswerRow, NONE};
+use std::io::{Result, Write};
+
+/// The answer to a call of a list: its code, and the numbers that it gives or none.
+#[derive(PartialEq, Debug)]
+pub struct Answer<'a> {
+    pub code: u64,
+    pub numbers: Option<&'a [u64]>,
+}
+
+impl Answer<'_> {
+    /// The answer of a row.
+    pub fn of(row: &AnswerRow) -> Answer<'_> {
+        let [code, count, numbers @ ..] = row;
+        let numbers = (*count != NONE).then(|| &numbers[..*count as usize]);
+        Answer { code: *code, numbers }
+    }
+}
+
+/// The calls that give no value of their own: a 0 stands in its place.
+const WITHOUT_VALUE: [u64; 5] = [call::RESET, call::WRITE, call::JUMP, call::TRACE, call::RETURN];
+
+/// Writes the answer to the call of this number: the code, and the numbers or `none`.
+pub fn write_answer(out: &mut impl Write, call: u64, row: &AnswerRow) -> Result<()> {
+    let answer = Answer::of(row);
+    write!(out, "{}", answer.code)?;
+    if WITHOUT_VALUE.contains(&call) {
+        write!(out, " 0")?;
+    }
+    match answer.numbers {
+        Some(numbers) => numbers.iter().try_for_each(|n| write!(out, " {n}"))?,
+        None => write!(out, " none")?,
+    }
+    writeln!(out)
+}
+
+#[cfg(test)]
+mod tests {
+    use super::*;
+
+    fn text(call: u64, words: [u64; 3]) -> String {
+        let mut row = AnswerRow::default();
+        row[..3].copy_from_slice(&words);
+        let mut out = Vec::new();
+        write_answer(&mut out, call, &row).expect("a vector grows");
+        String::from_utf8(out).expect("text")
+    }
+
+    #[test]
+    fn passed() {
+        for call in [call::RESET, call::WRITE, call::JUMP, call::TRACE, call::RETURN] {
+            assert_eq!(text(call, [0, 0, 0]), "0 0\n");
+        }
+        for call in [call::READ, call::CYCLE, call::LOOK, call::OFFER, call::TAKE] {
+            assert_eq!(text(call, [0, 1, 43]), "0 43\n");
+        }
+        assert_eq!(text(call::LOOK, [0, 1, u64::MAX]), "0 18446744073709551615\n");
+        assert_eq!(text(call::LOOK, [0, NONE, 0]), "0 none\n");
+        assert_eq!(text(call::OFFER, [0, NONE, 0]), "0 none\n");
+    }
+
+    #[test]
+    fn refused() {
+        for call in [call::RESET, call::WRITE, call::JUMP, call::TRACE, call::RETURN] {
+            assert_eq!(text(call, [9, 0, 0]), "9 0\n");
+        }
+        for call in [call::READ, call::CYCLE, call::LOOK, call::OFFER, call::TAKE] {
+            assert_eq!(text(call, [255, 1, 0]), "255 0\n");
+        }
+    }
+}

@@ -1,0 +1,276 @@
+//! A line of a script, taken byte by byte: a name, and numbers with one space before each. What is kept of it is
+//! bounded, however long it is.
+use crate::calls::Request;
+use c51::MAX_TRACE;
+
+/// The bytes of the longest name.
+const LONGEST_NAME: usize = 1;
+/// The numbers that are kept: the count of a trace, and one entry more than the longest trace has.
+const KEPT: usize = 1 + MAX_TRACE + 1;
+
+/// The numbers of a line: the first ones, and of the others, which are left out, how many there are and the greatest.
+#[derive(Default)]
+pub struct Numbers {
+    pub first: Vec<u64>,
+    pub left_out: u64,
+    pub greatest_left_out: u64,
+}
+
+impl Numbers {
+    fn push(&mut self, n: u64) {
+        if self.first.len() < KEPT {
+            self.first.push(n);
+        } else {
+            self.left_out += 1;
+            self.greatest_left_out = self.greatest_left_out.max(n);
+        }
+    }
+
+    fn clear(&mut self) {
+        self.first.clear();
+        self.left_out = 0;
+        self.greatest_left_out = 0;
+    }
+}
+
+/// What the last byte of a line belongs to.
+#[derive(Clone, Copy, PartialEq, Default)]
+enum Place {
+    #[default]
+    Name,
+    Gap,
+    Digits,
+    /// No call: neither this byte nor one after it is kept.
+    Fault,
+}
+
+/// A line so far.
+#[derive(Default)]
+pub struct Line {
+    place: Place,
+    name: Vec<u8>,
+    numbers: Numbers,
+    /// The number whose digits are being read.
+    number: u64,
+}
+
+impl Line {
+    /// Takes some bytes of the line, without its newline.
+    pub fn take(&mut self, bytes: &[u8]) {
+        for &byte in bytes {
+            self.place = match (self.place, byte) {
+                (Place::Name, b' ') => Place::Gap,
+                (Place::Name, _) if self.name.len() < LONGEST_NAME => {
+                    self.name.push(byte);
+                    Place::Name
+                }
+                (Place::Gap | Place::Digits, b'0'..=b'9') => self.digit(byte - b'0'),
+                (Place::Digits, b' ') => {
+                    self.end_number();
+                    Place::Gap
+                }
+                _ => Place::Fault,
+            };
+        }
+    }
+
+    /// One digit more; a number has at most 64 bits.
+    fn digit(&mut self, digit: u8) -> Place {
+        match self.number.checked_mul(10).and_then(|tens| tens.checked_add(digit.into())) {
+            Some(number) => {
+                self.number = number;
+                Place::Digits
+            }
+            None => Place::Fault,
+        }
+    }
+
+    fn end_number(&mut self) {
+        self.numbers.push(self.number);
+        self.number = 0;
+    }
+
+    /// Whether a byte was taken.
+    pub fn is_begun(&self) -> bool {
+        self.place != Place::Name || !self.name.is_empty()
+    }
+
+    /// Ends the line: gives what it asks for, or none where it is a fault, and begins the next one.
+    pub fn end(&mut self) -> Option<Request> {
+        if self.place == Place::Digits {
+            self.end_number();
+        }
+        let request = match self.place {
+            Place::Name | Place::Digits => Request::of(&self.name, &self.numbers),
+            Place::Gap | Place::Fault => None,
+        };
+        self.place = Place::Name;
+        self.name.clear();
+        self.numbers.clear();
+        self.number = 0;
+        request
+    }
+}
+
+/// What a whole line asks for, or none where it is a fault.
+pub fn request(line: &[u8]) -> Option<Request> {
+    let mut whole = Line::default();
+    whole.take(line);
+    whole.end()
+}
+
+#[cfg(test)]
+mod tests {
+    use super::*;
+    use crate::calls::Call;
+    use crate::record::{numbers, text};
+    use c51::Device;
+
+    fn call(line: &str) -> Option<Call> {
+        match request(line.as_bytes()) {
+            Some(Request::Call(call)) => Some(call),
+            Some(other) => panic!("{line}: {other:?}"),
+            None => None,
+        }
+    }
+
+    /// Every call, with its numbers at the ends of their widths.
+    #[test]
+    fn calls() {
+        let most = u64::MAX;
+        for (line, expected) in [
+            ("R 0".to_string(), Call::Reset(0)),
+            ("R 255".to_string(), Call::Reset(255)),
+            ("W 0 255".to_string(), Call::Write(0, 255)),
+            ("W 255 0".to_string(), Call::Write(255, 0)),
+            ("r 0".to_string(), Call::Read(0)),
+            ("r 255".to_string(), Call::Read(255)),
+            ("C 255".to_string(), Call::Cycle(255)),
+            (format!("J 255 {most}"), Call::Jump(255, most)),
+            ("J 0 0".to_string(), Call::Jump(0, 0)),
+            (format!("L 255 {most}"), Call::Look(255, most)),
+            ("T 0".to_string(), Call::Trace(vec![])),
+            ("T 3 0 4294967295 7".to_string(), Call::Trace(vec![0, u32::MAX, 7])),
+            ("O".to_string(), Call::Offer),
+            ("K".to_string(), Call::Take),
+            ("I".to_string(), Call::Return),
+        ] {
+            assert_eq!(call(&line), Some(expected.clone()), "{line}");
+            assert_eq!(expected.to_string(), line);
+        }
+        assert_eq!(request(b"D"), Some(Request::Dump));
+        assert_eq!(Request::Dump.to_string(), "D");
+    }
+
+    #[test]
+    fn zeros_before_a_number() {
+        let zeros = "0".repeat(1000);
+        assert_eq!(call(&format!("W {zeros}137 {zeros}")), Some(Call::Write(137, 0)));
+        assert_eq!(call(&format!("J {zeros}127 {zeros}18446744073709551615")), Some(Call::Jump(127, u64::MAX)));
+        assert_eq!(call(&format!("T {zeros}1 {zeros}4294967295")), Some(Call::Trace(vec![u32::MAX])));
+    }
+
+    #[test]
+    fn records() {
+        let mut device = Device { kind: 255, cycle: u64::MAX, ..Device::default() };
+        device.serial.send.value = u16::MAX;
+        device.levels[6] = 9;
+        let line = format!("S {}", text(&device));
+        let request = request(line.as_bytes()).expect("a record");
+        assert_eq!(request, Request::Put(Box::new(device)));
+        assert_eq!(request.to_string(), line);
+        for place in 0..numbers(&device).len() {
+            let mut words: Vec<String> = line.split(' ').map(String::from).collect();
+            words[place + 1] = "18446744073709551616".to_string();
+            assert_eq!(super::request(words.join(" ").as_bytes()), None, "number {place}");
+        }
+        for line in ["S", "S ", &line[..line.len() - 2], &format!("{line} 0"), &format!("{line} ")] {
+            assert_eq!(super::request(line.as_bytes()), None, "{line}");
+        }
+    }
+
+    #[test]
+    fn faults() {
+        // the form of a line, with a call that any other form of it is
+        for line in
+            ["", " ", "  ", "R", "R ", " R 52", "R  52", "R 52 ", "R 52  ", "R 52\r", "R\t52", "R 52\t", "R52", "RR 52", "R R 52"]
+        {
+            assert_eq!(call(line), None, "{line:?}");
+        }
+        // numbers
+        for number in
+            ["+52", "-52", "5x", "x", "0x34", "5_2", "5.0", "5e1", "٥٢", "52\0", "18446744073709551616", "99999999999999999999"]
+        {
+            assert_eq!(call(&format!("J 1 {number}")), None, "{number}");
+        }
+        // widths
+        for line in
+            ["R 256", "W 256 0", "W 0 256", "r 256", "C 256", "J 256 0", "L 256 0", "T 1 4294967296", "T 18446744073709551616"]
+        {
+            assert_eq!(call(line), None, "{line}");
+        }
+        // counts
+        for line in
+            ["R 52 1", "W 1", "W 1 2 3", "r", "r 1 2", "C", "C 1 2", "J 1", "J 1 2 3", "L 1", "L 1 2 3", "O 0", "K 0", "I 0", "D 0"]
+        {
+            assert_eq!(call(line), None, "{line}");
+        }
+        for line in ["T", "T ", "T 1", "T 0 1", "T 2 1", "T 1 1 2", "T 18446744073709551615", "T 4294967296"] {
+            assert_eq!(call(line), None, "{line}");
+        }
+        // names, also those of calls that are not there yet
+        for line in
+            ["Q", "x", "w 137 1", "d", "o", "Z 127 5", "VR", "VW 3 1", "B 1 2 3", "P", "Q 00", "H 1 0", "F 127", "G 127 1", "?"]
+        {
+            assert_eq!(call(line), None, "{line}");
+        }
+    }
+
+    #[test]
+    fn lines_of_one_byte() {
+        for byte in 0..=255 {
+            assert_eq!(request(&[byte]).is_some(), b"DIKO".contains(&byte), "{byte}");
+        }
+    }
+
+    /// A trace of so many entries.
+    fn long_trace(count: usize, last: &str) -> Vec<u8> {
+        let mut line = format!("T {count}");
+        line += &" 2130706433".repeat(count - 1);
+        line += &format!(" {last}");
+        line.into_bytes()
+    }
+
+    /// What is past the longest trace is counted and judged, and not kept.
+    #[test]
+    fn long_traces() {
+        let most = MAX_TRACE;
+        for (count, kept) in [(most, most), (most + 1, most + 1), (most + 2, most + 1), (3 * most, most + 1)] {
+            let Some(Request::Call(Call::Trace(entries))) = request(&long_trace(count, "4294967295")) else { panic!("{count}") };
+            assert_eq!(entries.len(), kept, "{count} entries");
+            assert_eq!(request(&long_trace(count, "4294967296")), None, "{count} entries");
+            assert_eq!(request(&long_trace(count, "x")), None, "{count} entries");
+            assert_eq!(request(&long_trace(count, "1 1")), None, "{count} entries");
+            assert_eq!(request(&long_trace(count, "")), None, "{count} entries");
+        }
+        let many = format!("T {}{}", most + 10, " 1".repeat(most + 9));
+        assert_eq!(request(many.as_bytes()), None);
+    }
+
+    /// A line that follows another one has nothing of it.
+    #[test]
+    fn one_line_after_another() {
+        let mut line = Line::default();
+        for before in [&b""[..], b"R", b"R 5", b"R 99999999999999999999", b"RR", b"T 3 1 2 3", &long_trace(70_000, "4294967296")] {
+            line.take(before);
+            assert_eq!(line.is_begun(), !before.is_empty());
+            line.end();
+            assert!(!line.is_begun());
+            line.take(b"W 1");
+            line.take(b"37 2");
+            assert_eq!(line.end(), Some(Request::Call(Call::Write(137, 2))));
+            line.take(&long_trace(70_000, "1"));
+            assert!(line.end().is_some());
+        }
+    }
+}

@@ -1,0 +1,244 @@
+//! Whole scripts through the library: lines of any bytes, any cut of the reading, long lists, and what fails.
+use random::Rng;
+use replay::script::{replay, Failure};
+use std::cell::RefCell;
+use std::io::{Error, ErrorKind, Read, Result, Write};
+
+fn answers(script: &[u8]) -> String {
+    let mut out = Vec::new();
+    replay(script, &mut out).expect("a script that can be read");
+    String::from_utf8(out).expect("text")
+}
+
+/// The device after reset, as a dump has it.
+const RESET: &str = "52 0 0 0 0 0 0 0 0 0 0 0 0 0 0 0 0 0 0 0 0 0 0 0 1 0 0 0 0 0 0 0 0 0 1 1 1 1 1 1 1";
+const ZEROS: &str = "0 0 0 0 0 0 0 0 0 0 0 0 0 0 0 0 0 0 0 0 0 0 0 0 0 0 0 0 0 0 0 0 0 0 0 0 0 0 0 0 0";
+
+/// Every form of a line, with its answer: Timer 0 overflows, and its interrupt is taken.
+const LINES: [(&str, &str); 26] = [
+    ("D", ZEROS),
+    ("O", "1 0"),
+    ("R 52", "0 0"),
+    ("D", RESET),
+    ("W 137 1", "0 0"),
+    ("W 140 255", "0 0"),
+    ("W 0138 254", "0 0"),
+    ("W 168 130", "0 0"),
+    ("W 136 16", "0 0"),
+    ("r 138", "0 254"),
+    ("r 0", "3 0"),
+    ("L 127 1", "0 none"),
+    ("L 127 1099511627776", "0 2"),
+    ("C 127", "0 1"),
+    ("C 128", "4 0"),
+    ("J 127 1", "0 0"),
+    ("J  127 1", "?"),
+    ("O", "0 none"),
+    ("T 2 2130706433 2130706432", "8 0"),
+    ("T 1 2130706433", "0 0"),
+    ("O", "0 11"),
+    ("K", "0 11"),
+    ("K", "6 0"),
+    ("I", "0 0"),
+    ("D", "52 0 16 1 1 0 0 0 0 0 130 0 0 0 0 0 0 0 0 0 0 0 0 0 1 0 0 0 0 0 0 0 0 3 1 1 1 1 1 1 1"),
+    ("R 53", "2 0"),
+];
+
+fn script() -> Vec<u8> {
+    LINES.map(|(line, _)| format!("{line}\n")).concat().into_bytes()
+}
+
+/// The answers to the first lines.
+fn expected(lines: usize) -> String {
+    let answer = |(number, (_, answer)): (usize, &(&str, &str))| match *answer {
+        "?" => format!("? {}\n", number + 1),
+        answer => format!("{answer}\n"),
+    };
+    LINES.iter().enumerate().take(lines).map(answer).collect()
+}
+
+#[test]
+fn every_form_of_a_line() {
+    assert_eq!(answers(&script()), expected(LINES.len()));
+}
+
+#[test]
+fn a_refused_reset_leaves_the_record_of_zeros() {
+    assert_eq!(answers(b"R 52\nR 53\nD\nR 51\nR 256\nr 136\n"), format!("0 0\n2 0\n{ZEROS}\n0 0\n? 5\n0 0\n"));
+}
+
+#[test]
+fn a_record_that_is_put_is_not_judged() {
+    let any = (1..=41).map(|n| n.to_string()).collect::<Vec<String>>().join(" ");
+    let text = format!("S {any}\nD\nC 127\nD\nS {RESET}\nC 127\nS {any} 1\nS {}\nr 137\n", any.replace("41", "256"));
+    assert_eq!(answers(text.as_bytes()), format!("0 0\n{any}\n1 0\n{any}\n0 0\n0 1\n? 7\n? 8\n0 0\n"));
+}
+
+#[test]
+fn the_end_of_a_script() {
+    assert_eq!(answers(b""), "");
+    assert_eq!(answers(b"\n"), "? 1\n");
+    assert_eq!(answers(b"\n\n"), "? 1\n? 2\n");
+    assert_eq!(answers(b"R 52"), "0 0\n");
+    assert_eq!(answers(b"R 52\nO"), "0 0\n0 none\n");
+    assert_eq!(answers(b"R 52\nO\n"), "0 0\n0 none\n");
+    assert_eq!(answers(b"R 52\nO "), "0 0\n? 2\n");
+    assert_eq!(answers(b"R 52\n "), "0 0\n? 2\n");
+    assert_eq!(answers(b"R 52\r\nO\r"), "? 1\n? 2\n");
+    assert_eq!(answers(b"R 52\n\0"), "0 0\n? 2\n");
+}
+
+/// Lines of random bytes are faults and leave the device, and each is answered by its own number.
+#[test]
+fn any_bytes() {
+    let mut rng = Rng::new(1);
+    let mut script = b"R 52\n".to_vec();
+    let mut expected = String::from("0 0\n");
+    for number in 2..2000 {
+        let length = rng.below(40);
+        let mut line: Vec<u8> = (0..length).map(|_| rng.byte()).filter(|&byte| byte != b'\n').collect();
+        if matches!(line[..], [b'D' | b'I' | b'K' | b'O']) {
+            line.clear();
+        }
+        script.extend(line);
+        script.push(b'\n');
+        expected += &format!("? {number}\n");
+    }
+    script.extend(b"D");
+    assert_eq!(answers(&script), expected + RESET + "\n");
+}
+
+/// Gives a script in parts, each by one read, and looks at what is answered before each read.
+struct Parts<'a> {
+    parts: Vec<&'a [u8]>,
+    before: &'a dyn Fn(usize),
+    read: usize,
+}
+
+impl Read for Parts<'_> {
+    fn read(&mut self, buffer: &mut [u8]) -> Result<usize> {
+        (self.before)(self.read);
+        let Some(part) = self.parts.get(self.read) else { return Ok(0) };
+        self.read += 1;
+        buffer[..part.len()].copy_from_slice(part);
+        Ok(part.len())
+    }
+}
+
+/// What was written, for one who looks while the script runs.
+struct Shared<'a>(&'a RefCell<Vec<u8>>);
+
+impl Write for Shared<'_> {
+    fn write(&mut self, bytes: &[u8]) -> Result<usize> {
+        self.0.borrow_mut().write(bytes)
+    }
+
+    fn flush(&mut self) -> Result<()> {
+        Ok(())
+    }
+}
+
+/// The script in these parts: before each read every line that has ended is answered.
+fn check_parts(parts: Vec<&[u8]>) {
+    let out = RefCell::new(Vec::new());
+    let before = |read: usize| {
+        let lines = parts[..read].concat().iter().filter(|&&byte| byte == b'\n').count();
+        assert_eq!(String::from_utf8_lossy(&out.borrow()), expected(lines), "before read {read}");
+    };
+    replay(Parts { parts: parts.clone(), before: &before, read: 0 }, Shared(&out)).expect("a script");
+    assert_eq!(String::from_utf8_lossy(&out.borrow()), expected(LINES.len()));
+}
+
+#[test]
+fn a_cut_at_every_byte() {
+    let script = script();
+    for at in 1..script.len() {
+        let (first, second) = script.split_at(at);
+        check_parts(vec![first, second]);
+    }
+    check_parts(script.chunks(1).collect());
+}
+
+/// More calls and more entries than one list takes, with a fault and a dump among them.
+#[test]
+fn long_lists() {
+    let trace = format!("T 3000{}\n", " 2130706433".repeat(3000));
+    let mut script = String::from("R 51\n");
+    let mut expected = String::from("0 0\n");
+    for number in 1..=100_u64 {
+        script += &trace;
+        script += &"C 127\n".repeat(200);
+        script += "x\nD\n";
+        expected += "0 0\n";
+        expected += &"0 1\n".repeat(200);
+        let cycle = number * 3200;
+        expected += &format!("? {}\n", 203 * number);
+        expected += &RESET.replacen("52", "51", 1).replace(" 0 1 1 1 1 1 1 1", &format!(" {cycle} 1 1 1 1 1 1 1"));
+        expected += "\n";
+    }
+    assert_eq!(answers(script.as_bytes()), expected);
+    let cycles = "R 51\n".to_string() + &"C 127\n".repeat(30_000);
+    assert_eq!(answers(cycles.as_bytes()), "0 0\n".to_string() + &"0 1\n".repeat(30_000));
+}
+
+/// Fails after a script, by each error in turn.
+struct Fails<'a> {
+    script: &'a [u8],
+    errors: Vec<ErrorKind>,
+}
+
+impl Read for Fails<'_> {
+    fn read(&mut self, buffer: &mut [u8]) -> Result<usize> {
+        if !self.script.is_empty() {
+            return self.script.read(buffer);
+        }
+        self.errors.pop().map_or(Ok(0), |kind| Err(Error::from(kind)))
+    }
+}
+
+#[test]
+fn a_read_that_fails() {
+    let mut out = Vec::new();
+    let failed = replay(Fails { script: b"R 52\nO\nr 1", errors: vec![ErrorKind::ConnectionReset] }, &mut out);
+    assert!(matches!(failed, Err(Failure::Read(why)) if why.kind() == ErrorKind::ConnectionReset));
+    assert_eq!(out, b"0 0\n0 none\n", "what had ended before is answered, and a part of a line is not");
+}
+
+#[test]
+fn a_read_that_is_interrupted_is_tried_again() {
+    let mut out = Vec::new();
+    let errors = vec![ErrorKind::Interrupted; 3];
+    replay(Fails { script: b"R 52\nO", errors }, &mut out).expect("a script");
+    assert_eq!(out, b"0 0\n0 none\n");
+}
+
+/// Takes so many bytes and then fails.
+struct Room(usize);
+
+impl Write for Room {
+    fn write(&mut self, bytes: &[u8]) -> Result<usize> {
+        let taken = bytes.len().min(self.0);
+        self.0 -= taken;
+        if taken > 0 || bytes.is_empty() {
+            Ok(taken)
+        } else {
+            Err(ErrorKind::StorageFull.into())
+        }
+    }
+
+    fn flush(&mut self) -> Result<()> {
+        Ok(())
+    }
+}
+
+#[test]
+fn a_write_that_fails() {
+    let script = script();
+    let whole = expected(LINES.len()).len();
+    for room in 0..whole {
+        let failed = replay(&script[..], Room(room));
+        assert!(matches!(failed, Err(Failure::Write(why)) if why.kind() == ErrorKind::StorageFull), "{room}");
+    }
+    assert!(replay(&script[..], Room(whole)).is_ok());
+    assert!(replay(&b"D\n".repeat(100_000)[..], Room(1_000_000)).is_err());
+}
