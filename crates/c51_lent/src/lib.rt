@@ -1,6 +1,6 @@
 // The library for C: the calls that alter a device, and whole scripts of calls, over a device record that is lent by reference and
-// altered there, and the others over one passed by value. Each is thin over the public call of `c51` or `lists`; nothing is asked of
-// the record.
+// altered there, and the others over one passed by value. Each is thin over the public call of `c51_access`, `c51_interrupt`, `c51_run`
+// or `lists`; nothing is asked of the record.
 ghost use mathlib.Core.Path.{_≡_};
 ghost use Rattle.machine.specs.Calls as Machine;
 ghost use Rattle.lists.specs.Script.{script, Replayed};
@@ -50,7 +50,7 @@ pub struct LookedAnswer {
 pub extern "C" fn c51_write(d: &mut Device, address: u8, value: u8) -> u8
     ensures { λ r. ⌜ (r ≡ Machine.writeAnswer (now (d .entry)) address value .code) × (now (d .exit) ≡ Machine.writeAnswer (now (d .entry)) address value .device) ⌝ }
 {
-    let written = c51::write(*d, address, value);
+    let written = c51_access::write(*d, address, value);
     *d = written.device;
     written.code
 }
@@ -60,7 +60,7 @@ pub extern "C" fn c51_write(d: &mut Device, address: u8, value: u8) -> u8
 pub extern "C" fn c51_cycle(d: &mut Device, pins: u8) -> LineAnswer
     ensures { λ r. ⌜ (r .code ≡ Machine.cycleAnswer (now (d .entry)) pins .code) × ((r .line ≡ Machine.cycleAnswer (now (d .entry)) pins .line) × (now (d .exit) ≡ Machine.cycleAnswer (now (d .entry)) pins .device)) ⌝ }
 {
-    let cycled = c51::cycle(*d, pins);
+    let cycled = c51_run::cycle(*d, pins);
     *d = cycled.device;
     LineAnswer {
         code: cycled.code,
@@ -73,7 +73,7 @@ pub extern "C" fn c51_cycle(d: &mut Device, pins: u8) -> LineAnswer
 pub extern "C" fn c51_jump(d: &mut Device, pins: u8, n: u64) -> u8
     ensures { λ r. ⌜ (r ≡ Machine.jumpAnswer (now (d .entry)) pins n .code) × (now (d .exit) ≡ Machine.jumpAnswer (now (d .entry)) pins n .device) ⌝ }
 {
-    let jumped = c51::jump(*d, pins, n);
+    let jumped = c51_run::jump(*d, pins, n);
     *d = jumped.device;
     jumped.code
 }
@@ -83,7 +83,7 @@ pub extern "C" fn c51_jump(d: &mut Device, pins: u8, n: u64) -> u8
 pub extern "C" fn c51_trace(d: &mut Device, entries: &[u32]) -> u8
     ensures { λ r. ⌜ (r ≡ Machine.traceAnswer (now (d .entry)) (now (entries .entry)) .code) × (now (d .exit) ≡ Machine.traceAnswer (now (d .entry)) (now (entries .entry)) .device) ⌝ }
 {
-    let ran = c51::trace(*d, entries);
+    let ran = c51_run::trace(*d, entries);
     *d = ran.device;
     ran.code
 }
@@ -93,7 +93,7 @@ pub extern "C" fn c51_trace(d: &mut Device, entries: &[u32]) -> u8
 pub extern "C" fn c51_take(d: &mut Device) -> VectorAnswer
     ensures { λ r. ⌜ (r .code ≡ Machine.takeAnswer (now (d .entry)) .code) × ((r .vector ≡ Machine.takeAnswer (now (d .entry)) .vector) × (now (d .exit) ≡ Machine.takeAnswer (now (d .entry)) .device)) ⌝ }
 {
-    let taken = c51::take(*d);
+    let taken = c51_interrupt::take(*d);
     *d = taken.device;
     VectorAnswer {
         code: taken.code,
@@ -106,7 +106,7 @@ pub extern "C" fn c51_take(d: &mut Device) -> VectorAnswer
 pub extern "C" fn c51_return(d: &mut Device) -> u8
     ensures { λ r. ⌜ (r ≡ Machine.returnAnswer (now (d .entry)) .code) × (now (d .exit) ≡ Machine.returnAnswer (now (d .entry)) .device) ⌝ }
 {
-    let returned = c51::reti(*d);
+    let returned = c51_interrupt::reti(*d);
     *d = returned.device;
     returned.code
 }
@@ -125,7 +125,7 @@ pub extern "C" fn c51_replay(d: &mut Device, calls: &[u64], lent: &[u32], answer
 pub extern "C" fn c51_reset(kind: u8) -> Answer
     ensures { λ r. ⌜ r ≡ Machine.resetAnswer kind ⌝ }
 {
-    c51::reset(kind)
+    c51_access::reset(kind)
 }
 
 // Read a register, for SBUF the received byte: 1, 3.
@@ -133,7 +133,7 @@ pub extern "C" fn c51_reset(kind: u8) -> Answer
 pub extern "C" fn c51_read(d: Device, address: u8) -> ValueAnswer
     ensures { λ r. ⌜ r ≡ Numbers.valueAnswer d address ⌝ }
 {
-    let a = c51::read(d, address);
+    let a = c51_access::read(d, address);
     match a {
         machine::ReadAnswer::Refused(k) => ValueAnswer { code: k, value: 0 },
         machine::ReadAnswer::Value(v) => ValueAnswer { code: 0, value: v },
@@ -145,7 +145,7 @@ pub extern "C" fn c51_read(d: Device, address: u8) -> ValueAnswer
 pub extern "C" fn c51_offer(d: Device) -> OfferedAnswer
     ensures { λ r. ⌜ r ≡ Numbers.offeredAnswer d ⌝ }
 {
-    let a = c51::offer(d);
+    let a = c51_interrupt::offer(d);
     match a {
         machine::OfferAnswer::Refused(k) => OfferedAnswer {
             code: k,
@@ -170,7 +170,7 @@ pub extern "C" fn c51_offer(d: Device) -> OfferedAnswer
 pub extern "C" fn c51_look(d: Device, pins: u8, n: u64) -> LookedAnswer
     ensures { λ r. ⌜ r ≡ Numbers.lookedAnswer d pins n ⌝ }
 {
-    let a = c51::look(d, pins, n);
+    let a = c51_run::look(d, pins, n);
     match a {
         machine::LookAnswer::Refused(k) => LookedAnswer {
             code: k,
@@ -195,5 +195,5 @@ pub extern "C" fn c51_look(d: Device, pins: u8, n: u64) -> LookedAnswer
 pub extern "C" fn c51_accepts(d: Device) -> u8
     ensures { λ r. ⌜ r ≡ Numbers.acceptsAnswer d ⌝ }
 {
-    if registers::accepts(d) { 1 } else { 0 }
+    if record::accepts(d) { 1 } else { 0 }
 }

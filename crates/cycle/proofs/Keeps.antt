@@ -25,7 +25,7 @@ use Rattle.timer2.proofs.Ranges as timer2
 use Rattle.serial.proofs.Ranges.{ticks-ok, step-ok, sends-below}
 use Rattle.serial.proofs.Rollover.{rolls-once}
 use Rattle.interrupts.proofs.Ranges.{external-byte, seen-most}
-use Rattle.registers.proofs.Accepted.{ranges-of, accepted-of}
+use Rattle.record.proofs.Accepted.{ranges-of, accepted-of}
 
 -- 1 or 0
 falls-bit : (saved : List ℕ) (pins pin : ℕ) → falls saved pins pin ≤ 1

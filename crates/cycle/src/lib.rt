@@ -2,7 +2,7 @@
 ghost use mathlib.Core.Path.{_≡_};
 ghost use mathlib.Core.Bool.{true};
 ghost use Prim.Native.Nat.{_<_};
-ghost use Rattle.machine.specs.Record.{accepted, pinsOf, levelsOf};
+ghost use Rattle.machine.specs.Record.{accepted, pinsOf, levelsOf, levelsOk};
 ghost use Rattle.machine.specs.Cycle as Rule;
 ghost use Rattle.cycle.specs.Once.{onceOf};
 use machine::Counted;
@@ -45,18 +45,20 @@ pub fn levels_of(pins: u8) -> [u8; 7]
     ]
 }
 
-// 1 where a pin's saved level is 1 and its level now 0.
+// 1 where a pin's saved level is 1 and its level now 0: each of the saved levels is 0 or 1.
 fn falls(saved: [u8; 7], pins: u8, pin: u8) -> u8
     requires { ⌜ pin < 7 ⌝ }
+    requires { ⌜ levelsOk saved ≡ true ⌝ }
     ensures { λ r. ⌜ r ≡ Rule.falls saved pins pin ⌝ }
 {
     let at = pin as usize;
     let was = saved[at];
-    laws::picked((was == 1) & (((pins >> pin) & 1) == 0), 1, 0)
+    was & !(pins >> pin)
 }
 
 // Steps 6 and 7 of Timers 0 and 1.
 fn timers_after(saved: [u8; 7], pins: u8, t: Timers) -> Timers
+    requires { ⌜ levelsOk saved ≡ true ⌝ }
     ensures { λ r. ⌜ r ≡ Rule.timersAfter saved pins t ⌝ }
 {
     let fell0 = falls(saved, pins, INT0);
@@ -72,6 +74,7 @@ fn timers_after(saved: [u8; 7], pins: u8, t: Timers) -> Timers
 
 // Step 7 of Timer 2.
 fn timer2_after(saved: [u8; 7], pins: u8, t: Timer2) -> Timer2
+    requires { ⌜ levelsOk saved ≡ true ⌝ }
     ensures { λ r. ⌜ r ≡ Rule.timer2After saved pins t ⌝ }
 {
     let mut u = t;
@@ -81,6 +84,7 @@ fn timer2_after(saved: [u8; 7], pins: u8, t: Timer2) -> Timer2
 
 // Steps 2 and 3: what the timers count.
 fn counted(d: Device, pins: u8) -> Counted
+    requires { ⌜ levelsOk (d .levels) ≡ true ⌝ }
     ensures { λ r. ⌜ r ≡ Rule.counted d pins ⌝ }
 {
     let saved = d.levels;
@@ -108,7 +112,7 @@ fn overflows_of(c: Counted) -> Overflows
 fn ticks_in(d: Device, c: Counted) -> Ticks
     ensures { λ r. ⌜ r ≡ Rule.ticksIn d c ⌝ }
 {
-    serial::serial_ticks(
+    ticks::serial_ticks(
         d.pcon,
         d.timer2.t2con,
         d.serial,

@@ -11,7 +11,7 @@ use Rattle.machine.specs.declared.Device.{Device}
 use Rattle.machine.specs.Record.{accepted}
 use Rattle.machine.specs.Cycle.{cycles}
 use Rattle.machine.specs.Calls.{longest}
-use Rattle.registers.proofs.Accepted.{ranges-of}
+use Rattle.record.proofs.Accepted.{ranges-of}
 use Rattle.laws.proofs.Choices.{by-test}
 use Rattle.strides.specs.Busy.{busy}
 use Rattle.strides.specs.Stride.{room}
@@ -50,9 +50,16 @@ module _ (pins left : ℕ) (d : Device) (a : accepted d ≡ true) (some : 1 ≤ 
   pub crossed-round : (r : Round) → Crossed pins left d r → RoundOf pins left d (r .used)
   crossed-round r c = subst (RoundOf pins left d) (sym (c .used)) used-round
 
-  pub round-promises : (r : Round) → one-round-reads.Learnt tt (d, (pins, (left, tt))) r (d, (pins, (left, tt)))
+  pub round-promises : (r : Round) → one-round-reads.Learnt tt (d, (pins, (left, (room pins d, tt)))) r (d, (pins, (left, (room pins d, tt))))
       → RoundOf pins left d (r .used)
   round-promises r c = crossed-round r c
+
+  -- a quiet run to the end
+  pub last-round : left ≤ room pins d → RoundOf pins left d left
+  last-round h =
+      let u = used-quiet pins left d (omega arith) in
+      let w : usedIn pins left d ≡ left = omega arith in
+      subst (RoundOf pins left d) w used-round
 
 -- A pass of the loop over TL1, after n cycles of a device in which Timer 1's reload is all that happens
 module _ (pins : ℕ) (d : Device) (y : Ready pins d) (i : idlesAt pins d ≡ true) where

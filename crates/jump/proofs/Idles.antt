@@ -11,7 +11,7 @@ use Rattle.machine.specs.Cycle.{cycles}
 use Rattle.machine.specs.Calls.{firstRise}
 use Rattle.strides.specs.Stride.{usedOf}
 use Rattle.jump.specs.Rounds.{Ready, usedIn}
-use Rattle.registers.proofs.Accepted.{ranges-of}
+use Rattle.record.proofs.Accepted.{ranges-of}
 use Rattle.reload.specs.Reload.{idlesAt, idleAt, clockingOf, idlingOf, idleCycles, usedIdling}
 use Rattle.reload.proofs.Alone.{idles-idle}
 use Rattle.reload.proofs.Runs.{idle-law, idle-rises, idle-room}

@@ -3,12 +3,10 @@
 use Prim.Native.Nat.{ℕ, zero, suc}
 use mathlib.Core.Path.{_≡_, refl, ap, _∙_}
 use mathlib.Core.Bool.{true, false}
-use mathlib.Core.List.{List, [], _∷_}
 use Rattle.machine.specs.declared.Device.{Device}
 use Rattle.machine.specs.Record.{accepted, pinsOf}
 use Rattle.machine.specs.Cycle.{cycleOf, cycles, anyRefused9}
-use Rattle.machine.specs.Calls.{entryPins, entryCycles, traceCycles, traceRefused9}
-use Rattle.registers.proofs.Accepted.{ranges-of, accepted-of}
+use Rattle.record.proofs.Accepted.{ranges-of, accepted-of}
 use Rattle.cycle.proofs.Keeps.{never9, cycle-accepted}
 use Rattle.strides.proofs.Runs.{cycles-kind, cycles-ranges}
 use Rattle.jump.specs.Rounds.{Ready}
@@ -28,17 +26,3 @@ unfolding anyRefused9
 none-refused9 zero pins d a = refl
 none-refused9 (suc n) pins d a =
     rw (never9 pins d a) (none-refused9 n pins (cycleOf pins d) (cycle-accepted pins d a))
-
--- the same of a trace
-pub trace-accepted : (es : List ℕ) (d : Device) → accepted d ≡ true → accepted (traceCycles es d) ≡ true
-unfolding traceCycles
-trace-accepted [] d a = a
-trace-accepted (e ∷ es) d a =
-    trace-accepted es (cycles (entryCycles e) (entryPins e) d) (cycles-accepted (entryCycles e) (entryPins e) d a)
-
-pub trace-none-refused9 : (es : List ℕ) (d : Device) → accepted d ≡ true → traceRefused9 es d ≡ false
-unfolding traceRefused9
-trace-none-refused9 [] d a = refl
-trace-none-refused9 (e ∷ es) d a =
-    rw (none-refused9 (entryCycles e) (entryPins e) d a)
-    (trace-none-refused9 es (cycles (entryCycles e) (entryPins e) d) (cycles-accepted (entryCycles e) (entryPins e) d a))

@@ -3,5 +3,4 @@ pub mod Keeps
 pub mod Idles
 pub mod Flags
 pub mod Rounds
-pub mod Traces
 pub mod Busy

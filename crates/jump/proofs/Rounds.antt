@@ -7,19 +7,19 @@ use native.Mathlib.Omega.{arith}
 use borrow.Author.Tests.{eq-eqb, ne-eqb}
 use Rattle.machine.specs.declared.Device.{Device}
 use Rattle.machine.specs.declared.LookAnswer.{LookAnswer}
-use Rattle.machine.specs.declared.LookAnswer.the-variants.{At}
+use Rattle.machine.specs.declared.LookAnswer.the-variants.{At, Nothing}
 use Rattle.machine.specs.Record.{accepted}
 use Rattle.machine.specs.Flags.{flags, anyRises}
 use Rattle.machine.specs.Cycle.{steps, cycleOf, refused9, cycles, anyRefused9}
 use Rattle.machine.specs.Calls.{firstRise}
 use Rattle.laws.specs.Ranges.{Ranges}
-use Rattle.registers.proofs.Accepted.{ranges-of}
+use Rattle.record.proofs.Accepted.{ranges-of}
 use Rattle.cycle.specs.declared.Once.{Once}
 use Rattle.cycle.specs.Once.{onceOf}
 use Rattle.strides.specs.Stride.{room, roomAt, stride, strideAt, strideTimers, stride2, strideSerial}
 use Rattle.strides.proofs.Strides.{quiet-cycle, stride-law}
 use Rattle.strides.proofs.Runs.{cycles-one, crossed-on}
-use Rattle.strides.proofs.Rises.{quiet-still, on-here, on-one, on-stride}
+use Rattle.strides.proofs.Rises.{quiet-still, rise-quiet, on-here, on-one, on-stride}
 use Rattle.jump.specs.declared.Round.{Round}
 use Rattle.jump.specs.declared.Ran.{Ran}
 use Rattle.jump.specs.Rounds.{Ready, usedIn, Crossed, Advanced}
@@ -76,6 +76,17 @@ module _ (pins left : ℕ) (d : Device) where
         reaches = f ∙ sym (stride-law m pins d (ranges-of d a) (omega arith));
         refused = sym (none-refused9 m pins d a);
       }
+
+-- a quiet run to the end: the stride ends where the cycles that are left do, and a look ahead over them finds nothing
+module _ (pins left : ℕ) (d : Device) (y : Ready pins d) {n : ℕ} (e : n ≡ roomAt pins d) (h : left ≤ n) where
+  within-room : left ≤ room pins d
+  within-room = subst (λ (m : ℕ). left ≤ m) (room-is pins d y e) h
+
+  pub quiet-on : {u v : Device} → u ≡ strideAt left pins d → cycles left pins d ≡ v → u ≡ v
+  quiet-on f i = stride-is pins d y left f ∙ (sym (stride-law left pins d (ranges-of d (y .good)) within-room) ∙ i)
+
+  pub quiet-look : (k : ℕ) {v : LookAnswer} → firstRise k left pins d ≡ v → Nothing ≡ v
+  quiet-look k i = sym (rise-quiet left k pins d (ranges-of d (y .good)) within-room) ∙ i
 
 -- a round of the cycles that are left
 module _ (pins left : ℕ) (d : Device) {r : Round} (c : Crossed pins left d r) (some : 1 ≤ left) where

@@ -1,13 +1,11 @@
--- What a round of a jump passes, and what the rounds of a jump and of a trace come to.
+-- What a round of a jump passes, and what the rounds of a jump come to.
 use Prim.Native.Nat.{ℕ, _<_, _≤_}
 use mathlib.Core.Path.{_≡_}
 use mathlib.Core.Bool.{true, false}
-use mathlib.Core.List.{List}
 use mathlib.Core.Logic.{_⊎_}
 use Rattle.machine.specs.declared.Device.{Device}
 use Rattle.machine.specs.Record.{accepted, pinsOf}
 use Rattle.machine.specs.Cycle.{cycles, anyRefused9}
-use Rattle.machine.specs.Calls.{traceCycles, traceRefused9}
 use Rattle.strides.specs.Busy.{busy}
 use Rattle.strides.specs.Stride.{room, usedOf}
 use Rattle.jump.specs.declared.Round.{Round}
@@ -32,11 +30,6 @@ pub record Crossed (pins left : ℕ) (d : Device) (r : Round) : Type 0 where
 pub record Advanced (n pins : ℕ) (d : Device) (r : Ran) : Type 0 where
   pub refused : r .twice ≡ anyRefused9 n pins d
   pub reaches : r .twice ≡ false → r .device ≡ cycles n pins d
-
--- the same of a trace
-pub record Traced (es : List ℕ) (d : Device) (r : Ran) : Type 0 where
-  pub refused : r .twice ≡ traceRefused9 es d
-  pub reaches : r .twice ≡ false → r .device ≡ traceCycles es d
 
 -- Rounds as request Nine counts them: so many of the cycles that are left are one busy cycle, or a longest run of others
 

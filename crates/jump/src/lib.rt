@@ -3,21 +3,16 @@
 ghost use mathlib.Core.Path.{_≡_};
 ghost use mathlib.Core.Bool.{true, false};
 ghost use Prim.Native.Nat.{_≤_};
-ghost use Rattle.machine.specs.Record.{accepted};
 ghost use Rattle.machine.specs.Flags.{flags, anyRises};
-ghost use Rattle.machine.specs.Calls.{longest, entryPins, entryCycles, entryFault, traceFault, firstRise};
-ghost use Rattle.jump.specs.Rounds.{Ready, Crossed, Advanced, Traced};
+ghost use Rattle.machine.specs.Calls.{longest, firstRise};
+ghost use Rattle.strides.specs.Stride.{roomAt};
+ghost use Rattle.jump.specs.Rounds.{Ready, Crossed, Advanced};
 use laws::least;
 use machine::Device;
 use machine::LookAnswer;
-use machine::MOST_ENTRIES;
 use machine::places::SCON_FLAGS;
 use machine::places::T2CON_FLAGS;
 use machine::places::TCON_FLAGS;
-use machine::refusals::BAD_PINS;
-use machine::refusals::EMPTY_ENTRY;
-use machine::refusals::PASSED;
-use machine::refusals::TOO_LONG;
 
 // What a round passes: whether a cycle of it is refused by 9, how many cycles it has, and the device after them.
 pub struct Round {
@@ -26,13 +21,13 @@ pub struct Round {
     pub device: Device,
 }
 
-// One round of the cycles that are left: a single cycle where the next is busy, otherwise a stride over the quiet run.
-fn one_round(d: Device, pins: u8, left: u64) -> Round
-    requires { ⌜ Ready pins d × (1 ≤ left) × (left ≤ longest) ⌝ }
+// One round of the cycles that are left: a single cycle where there is no room, since the next is busy, otherwise a stride over
+// the quiet run.
+fn one_round(d: Device, pins: u8, left: u64, room: u64) -> Round
+    requires { ⌜ Ready pins d × (1 ≤ left) × (left ≤ longest) × (room ≡ roomAt pins d) ⌝ }
     ensures { λ r. ⌜ Crossed pins left d r ⌝ }
 {
-    let most = quiet::room(d, pins);
-    if most == 0 {
+    if room == 0 {
         let once = cycle::cycle_once(d, pins);
         let e = once.device;
         Round {
@@ -41,11 +36,11 @@ fn one_round(d: Device, pins: u8, left: u64) -> Round
             device: e,
         }
     } else {
-        let used = least(most, left);
+        let used = least(room, left);
         Round {
             twice: false,
             used: used,
-            device: quiet::stride(d, pins, used),
+            device: quiet_stride::stride(d, pins, used),
         }
     }
 }
@@ -57,7 +52,7 @@ pub struct Ran {
 }
 
 // n cycles with one pin byte, round by round. Where Timer 1's reload is all that happens from here on, the rounds go by its
-// few fields alone.
+// few fields alone; a quiet run to the end is the last round.
 pub fn advance(d: Device, pins: u8, n: u64) -> Ran
     requires { ⌜ Ready pins d × (n ≤ longest) ⌝ }
     ensures { λ r. ⌜ Advanced n pins d r ⌝ }
@@ -65,13 +60,20 @@ pub fn advance(d: Device, pins: u8, n: u64) -> Ran
     let mut at = d;
     let mut left = n;
     while 0 < left {
-        if reload::idles(at, pins) {
+        let ahead = quiet::ahead(at, pins);
+        if reload::idles(at, pins, ahead.settled) {
             return Ran {
                 twice: false,
                 device: reload::idle(at, pins, left),
             };
         }
-        let r = one_round(at, pins, left);
+        if left <= ahead.room {
+            return Ran {
+                twice: false,
+                device: quiet_stride::stride(at, pins, left),
+            };
+        }
+        let r = one_round(at, pins, left, ahead.room);
         if r.twice {
             return Ran {
                 twice: true,
@@ -97,8 +99,8 @@ fn rose(before: Device, after: Device) -> bool
     (!(tcon == 0) | !(scon == 0)) | !(t2con == 0)
 }
 
-// The first of n cycles in which a flag rises, or none, by the same rounds. Where Timer 1's reload is all that happens,
-// none rises.
+// The first of n cycles in which a flag rises, or none, by the same rounds. Where Timer 1's reload is all that happens, and
+// in a quiet run to the end, none rises.
 pub fn first_rise(d: Device, pins: u8, n: u64) -> LookAnswer
     requires { ⌜ Ready pins d × (n ≤ longest) ⌝ }
     ensures { λ r. ⌜ r ≡ firstRise 0 n pins d ⌝ }
@@ -106,10 +108,15 @@ pub fn first_rise(d: Device, pins: u8, n: u64) -> LookAnswer
     let mut at = d;
     let mut done = 0;
     while done < n {
-        if reload::idles(at, pins) {
+        let ahead = quiet::ahead(at, pins);
+        if reload::idles(at, pins, ahead.settled) {
             return LookAnswer::Nothing;
         }
-        let r = one_round(at, pins, n - done);
+        let left = n - done;
+        if ahead.room >= left {
+            return LookAnswer::Nothing;
+        }
+        let r = one_round(at, pins, left, ahead.room);
         let e = r.device;
         done += r.used;
         if rose(at, e) {
@@ -118,72 +125,4 @@ pub fn first_rise(d: Device, pins: u8, n: u64) -> LookAnswer
         at = e;
     }
     LookAnswer::Nothing
-}
-
-// A trace entry's pin byte, its top 8 bits.
-fn entry_pins(e: u32) -> u8
-    ensures { λ r. ⌜ r ≡ entryPins e ⌝ }
-{
-    ((e >> 24) & 0xff) as u8
-}
-
-// A trace entry's cycles, its low 24 bits.
-fn entry_cycles(e: u32) -> u64
-    ensures { λ r. ⌜ r ≡ entryCycles e ⌝ }
-{
-    (e & 0xffffff) as u64
-}
-
-// The number by which an entry is refused, or 0: 4 for its pin byte before 8 for its cycles.
-fn entry_fault(e: u32) -> u8
-    ensures { λ r. ⌜ r ≡ entryFault e ⌝ }
-{
-    let pins = entry_pins(e);
-    let cycles = entry_cycles(e);
-    let of_cycles = laws::picked(cycles == 0, EMPTY_ENTRY, PASSED);
-    laws::picked(pins < 128, of_cycles, BAD_PINS)
-}
-
-// The number by which a trace is refused, or 0: 5 goes first, then its first bad entry.
-pub fn trace_fault(entries: &[u32]) -> u8
-    ensures { λ r. ⌜ r ≡ traceFault (now (entries .entry)) ⌝ }
-{
-    if MOST_ENTRIES < entries.len() {
-        return TOO_LONG;
-    }
-    let mut i = 0;
-    while i < entries.len() {
-        let bad = entry_fault(entries[i]);
-        if bad != PASSED {
-            return bad;
-        }
-        i += 1;
-    }
-    PASSED
-}
-
-// The cycles of each entry in turn, with its pin byte as it is given.
-pub fn run_entries(d: Device, entries: &[u32]) -> Ran
-    requires { ⌜ accepted d ≡ true ⌝ }
-    ensures { λ r. ⌜ Traced (now (entries .entry)) d r ⌝ }
-{
-    let mut at = d;
-    let mut i = 0;
-    while i < entries.len() {
-        let e = entries[i];
-        let pins = cycle::pins_of(at.kind, entry_pins(e));
-        let a = advance(at, pins, entry_cycles(e));
-        if a.twice {
-            return Ran {
-                twice: true,
-                device: d,
-            };
-        }
-        at = a.device;
-        i += 1;
-    }
-    Ran {
-        twice: false,
-        device: at,
-    }
 }

@@ -2,3 +2,4 @@ pub mod Choices
 pub mod Tests
 pub mod Bits
 pub mod Counting
+pub mod Guards

@@ -16,7 +16,7 @@ use Rattle.machine.specs.Calls.{resetAnswer}
 use Rattle.machine.specs.Lists.{Call, Reply, Played, Ran, ran, play, run, machine, played, replyOf, replyOfRun, replyOfCycle, replyOfTake, replyOfRead, replyOfOffer, replyOfLook}
 use Rattle.lists.specs.Demand3.{Kept, Chained, AsksNothing, Tells, Demand3}
 use Rattle.lists.specs.Demand3.Chained.{nothing, then}
-use Rattle.c51.proofs.reset.Reads as reset-reads
+use Rattle.c51_access.proofs.reset.Reads as reset-reads
 use Rattle.lists.proofs.Looks.{look-means, look-tells}
 use Rattle.lists.proofs.Spells.{spelled}
 use Rattle.lists.proofs.Replayed.{run-long, replayed}

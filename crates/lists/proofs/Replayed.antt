@@ -19,7 +19,8 @@ use Rattle.machine.specs.declared.LookAnswer.the-variants as Look
 use Rattle.machine.specs.Calls.{readAnswer, lookAnswer, offerAnswer}
 use Rattle.machine.specs.Lists.{Call, Reply, Value, Ran, says, play, run, machine, replyOfRead, replyOfOffer, replyOfLook}
 use Rattle.machine.specs.Lists.Value.{numbers, none}
-use Rattle.lists.specs.Script.{Script, script, mostNumbers, answerWords, noneMark, padded, rowOf, rowsOf, written, firstReply, repliesIn, Answered, Replayed}
+use Rattle.calls.specs.Row.{mostNumbers, answerWords, noneMark, padded, rowOf}
+use Rattle.lists.specs.Script.{Script, script, rowsOf, written, firstReply, repliesIn, Answered, Replayed}
 use Rattle.lists.specs.Spelling.{Each, Room, Spells}
 use Rattle.lists.specs.Demand3.{Same}
 use Rattle.lists.proofs.Replays.{row-long}

@@ -9,8 +9,9 @@ use lib.ListN.{length, drop, take, set, getD, length-append, take-append-drop}
 use lib.Seq.{getD-drop, drop-drop}
 use Rattle.machine.specs.declared.Device.{Device}
 use Rattle.machine.specs.Lists.{Call, Reply, Ran, play, run}
-use Rattle.lists.specs.declared.Shown.{Shown}
-use Rattle.lists.specs.Script.{Script, callWords, callOf, firstCall, callsIn, callsOf, mostNumbers, answerWords, countOf, numbersOf, padded, rowOf, rowsOf, written, shown, rows, Answered}
+use Rattle.calls.specs.declared.Shown.{Shown}
+use Rattle.calls.specs.Row.{callOf, mostNumbers, answerWords, countOf, numbersOf, padded, rowOf, shown}
+use Rattle.lists.specs.Script.{Script, callWords, firstCall, callsIn, callsOf, rowsOf, written, rows, Answered}
 use Rattle.lists.proofs.Rows.{put, put-length, put-take, put-drop}
 
 -- the calls from row i on, of n in all

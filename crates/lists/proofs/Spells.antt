@@ -9,7 +9,8 @@ use lib.ListN.{length, length-append}
 use lib.Seq.{take-append-seam, drop-append-seam}
 use borrow.Author.Tests.{le-leb}
 use Rattle.machine.specs.Lists.{Call}
-use Rattle.lists.specs.Script.{callWords, answerWords, partOf, callOf, callsIn, callsOf, rows}
+use Rattle.calls.specs.Row.{answerWords, partOf, callOf}
+use Rattle.lists.specs.Script.{callWords, callsIn, callsOf, rows}
 use Rattle.lists.specs.Spelling.{Each, In, Addressable, Fits, entriesOf, spell, rowsOfCalls, lentOf, scriptOf, Room, Spells}
 
 -- a part that stands between others

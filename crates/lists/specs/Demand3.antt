@@ -19,18 +19,19 @@ use Rattle.machine.specs.declared.LookAnswer.the-variants as Look
 use Rattle.machine.specs.Cycle.{cycles}
 use Rattle.machine.specs.Calls.{rises}
 use Rattle.machine.specs.Lists.{Call, Value, Reply, Played, Ran, ran, run, machine, played, number, replyOf, replyOfRun, replyOfCycle, replyOfTake, replyOfRead, replyOfOffer, replyOfLook}
-use Rattle.lists.specs.Script.{Script, callWords, answerWords, repliesIn, Replayed}
+use Rattle.calls.specs.Row.{answerWords}
+use Rattle.lists.specs.Script.{Script, callWords, repliesIn, Replayed}
 use Rattle.lists.specs.Spelling.{Each, Fits, Addressable, lentOf, scriptOf, Room, Spells}
-use Rattle.c51.proofs.reset.Reads as reset-reads
-use Rattle.c51.proofs.read.Reads as read-reads
-use Rattle.c51.proofs.write.Reads as write-reads
-use Rattle.c51.proofs.cycle.Reads as cycle-reads
-use Rattle.c51.proofs.jump.Reads as jump-reads
-use Rattle.c51.proofs.trace.Reads as trace-reads
-use Rattle.c51.proofs.look.Reads as look-reads
-use Rattle.c51.proofs.offer.Reads as offer-reads
-use Rattle.c51.proofs.take.Reads as take-reads
-use Rattle.c51.proofs.reti.Reads as return-reads
+use Rattle.c51_access.proofs.reset.Reads as reset-reads
+use Rattle.c51_access.proofs.read.Reads as read-reads
+use Rattle.c51_access.proofs.write.Reads as write-reads
+use Rattle.c51_run.proofs.cycle.Reads as cycle-reads
+use Rattle.c51_run.proofs.jump.Reads as jump-reads
+use Rattle.c51_run.proofs.trace.Reads as trace-reads
+use Rattle.c51_run.proofs.look.Reads as look-reads
+use Rattle.c51_interrupt.proofs.offer.Reads as offer-reads
+use Rattle.c51_interrupt.proofs.take.Reads as take-reads
+use Rattle.c51_interrupt.proofs.reti.Reads as return-reads
 
 -- A call on a device: the reply and the device after it, as the public function's contract promises them.
 -- Reads, offers and looks hand back no device: they alter nothing

@@ -1,21 +1,14 @@
 -- How a script spells a list of calls, and how the answers to it are written down: rows of words, one after the other.
-use Prim.Native.Nat.{ℕ, zero, suc, _-_, _/_, _%_, _^_, min}
+use Prim.Native.Nat.{ℕ, zero, suc, _/_, min}
 use mathlib.Core.Path.{_≡_}
 use mathlib.Core.Bool.{cond}
 use mathlib.Core.List.{List, [], _∷_, _++_}
 use lib.ListN.{length, getD, take, drop}
-use lib.Dec.{leb, eqb}
+use lib.Dec.{eqb}
 use Rattle.machine.specs.declared.Device.{Device}
-use Rattle.machine.specs.declared.Answer.{Answer}
-use Rattle.machine.specs.declared.RunAnswer.{RunAnswer}
-use Rattle.machine.specs.declared.CycleAnswer.{CycleAnswer}
-use Rattle.machine.specs.declared.TakeAnswer.{TakeAnswer}
-use Rattle.machine.specs.declared.ReadAnswer.{ReadAnswer}
-use Rattle.machine.specs.declared.OfferAnswer.{OfferAnswer}
-use Rattle.machine.specs.declared.LookAnswer.{LookAnswer}
-use Rattle.machine.specs.Lists.{Call, Value, Reply, Played, Ran, run, machine, says, played, replyOf, replyOfRun, replyOfCycle, replyOfTake, replyOfRead, replyOfOffer, replyOfLook}
+use Rattle.machine.specs.Lists.{Call, Reply, Ran, run, machine, says}
 use Rattle.machine.specs.Lists.Value.{numbers, none}
-use Rattle.lists.specs.declared.Shown.{Shown}
+use Rattle.calls.specs.Row.{callOf, answerWords, noneMark, rowOf}
 
 -- Calls
 
@@ -31,59 +24,6 @@ pub record Script : Type 0 where
 abbrev pub script : List ℕ → List ℕ → Script
 script calls lent = record { calls = calls; lent = lent }
 
--- the entries from a start to an end; none where these are not in order or not in range
-unfoldable pub partOf : List ℕ → ℕ → ℕ → List ℕ
-partOf lent start end = cond (leb start end) (cond (leb end (length lent)) (take (end - start) (drop start lent)) []) []
-
--- a kind, an address, a value or a pin byte: the low 8 bits of a word
-abbrev pub byteIn : ℕ → ℕ
-byteIn word = word % 256
-
--- the calls by their numbers; every other number is a return
-abbrev pub RESET : ℕ
-RESET = 0
-
-abbrev pub READ : ℕ
-READ = 1
-
-abbrev pub WRITE : ℕ
-WRITE = 2
-
-abbrev pub CYCLE : ℕ
-CYCLE = 3
-
-abbrev pub JUMP : ℕ
-JUMP = 4
-
-abbrev pub TRACE : ℕ
-TRACE = 5
-
-abbrev pub LOOK : ℕ
-LOOK = 6
-
-abbrev pub OFFER : ℕ
-OFFER = 7
-
-abbrev pub TAKE : ℕ
-TAKE = 8
-
-abbrev pub RETURN : ℕ
-RETURN = 9
-
--- the call of a row, from its number and its arguments
-unfoldable pub callOf : ℕ → ℕ → ℕ → List ℕ → Call
-callOf op first second lent =
-    cond (eqb op RESET) (Call.reset (byteIn first))
-    (cond (eqb op READ) (Call.read (byteIn first))
-    (cond (eqb op WRITE) (Call.write (byteIn first) (byteIn second))
-    (cond (eqb op CYCLE) (Call.cycle (byteIn first))
-    (cond (eqb op JUMP) (Call.jump (byteIn first) second)
-    (cond (eqb op TRACE) (Call.trace (partOf lent first second))
-    (cond (eqb op LOOK) (Call.look (byteIn first) second)
-    (cond (eqb op OFFER) Call.offer
-    (cond (eqb op TAKE) Call.take
-    Call.return))))))))
-
 -- the call of the first row, and those of the first n rows
 abbrev pub firstCall : List ℕ → List ℕ → Call
 firstCall rows lent = callOf (getD rows 0 0) (getD rows 1 0) (getD rows 2 0) lent
@@ -94,34 +34,7 @@ callsIn (suc n) rows lent = firstCall rows lent ∷ callsIn n (drop callWords ro
 
 -- Answers
 
--- the numbers that an answer has room for, and its words: its code, how many numbers it gives or the mark of none, and the numbers
-abbrev pub mostNumbers : ℕ
-mostNumbers = 1
-
-abbrev pub answerWords : ℕ
-answerWords = 3
-
-abbrev pub noneMark : ℕ
-noneMark = 2 ^ 64 - 1
-
-abbrev pub countOf : Value → ℕ
-countOf (numbers ns) = length ns
-countOf none = noneMark
-
-abbrev pub numbersOf : Value → List ℕ
-numbersOf (numbers ns) = ns
-numbersOf none = []
-
--- n numbers: those of a list, and 0 past them
-abbrev pub padded : ℕ → List ℕ → List ℕ
-padded zero ns = []
-padded (suc n) [] = 0 ∷ padded n []
-padded (suc n) (m ∷ ns) = m ∷ padded n ns
-
--- a reply as a row, and all replies
-abbrev pub rowOf : Reply → List ℕ
-rowOf r = r .code ∷ countOf (r .value) ∷ padded mostNumbers (numbersOf (r .value))
-
+-- the rows of all replies
 unfoldable pub rowsOf : List Reply → List ℕ
 rowsOf [] = []
 rowsOf (r ∷ rs) = rowOf r ++ rowsOf rs
@@ -138,31 +51,6 @@ firstReply rows =
 unfoldable pub repliesIn : ℕ → List ℕ → List Reply
 repliesIn zero rows = []
 repliesIn (suc n) rows = firstReply rows ∷ repliesIn n (drop answerWords rows)
-
--- what the code writes down of a call: the row, and the device after it
-abbrev pub shown : Played → Shown
-shown p = record { row = rowOf (p .reply); device = p .device }
-
-abbrev pub shownPlain : Answer → Shown
-shownPlain a = shown (played (replyOf a) (a .device))
-
-abbrev pub shownRun : RunAnswer → Shown
-shownRun a = shown (played (replyOfRun a) (a .device))
-
-abbrev pub shownCycle : CycleAnswer → Shown
-shownCycle a = shown (played (replyOfCycle a) (a .device))
-
-abbrev pub shownTake : TakeAnswer → Shown
-shownTake a = shown (played (replyOfTake a) (a .device))
-
-abbrev pub shownRead : ReadAnswer → Device → Shown
-shownRead a d = shown (played (replyOfRead a) d)
-
-abbrev pub shownOffer : OfferAnswer → Device → Shown
-shownOffer a d = shown (played (replyOfOffer a) d)
-
-abbrev pub shownLook : LookAnswer → Device → Shown
-shownLook a d = shown (played (replyOfLook a) d)
 
 -- A replay
 

@@ -5,7 +5,8 @@ use mathlib.Core.List.{List, [], _∷_, _++_}
 use lib.ListN.{length}
 use Rattle.machine.specs.Lists.{Call}
 use Rattle.machine.specs.Lists.Call.{reset, read, write, cycle, jump, trace, look, offer, take, return}
-use Rattle.lists.specs.Script.{Script, script, RESET, READ, WRITE, CYCLE, JUMP, TRACE, LOOK, OFFER, TAKE, RETURN, answerWords, callsOf}
+use Rattle.calls.specs.Row.{RESET, READ, WRITE, CYCLE, JUMP, TRACE, LOOK, OFFER, TAKE, RETURN, answerWords}
+use Rattle.lists.specs.Script.{Script, script, callsOf}
 
 -- What a list of numbers must be to be a slice
 

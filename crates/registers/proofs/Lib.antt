@@ -1,4 +1,1 @@
 pub mod Table
-pub mod Tests
-pub mod Accepted
-pub mod Written

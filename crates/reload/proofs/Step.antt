@@ -23,8 +23,9 @@ use Rattle.machine.specs.Cycle.{falls, counted, ticksIn, steps}
 use Rattle.laws.specs.Ranges.{SerialOk, Ranges}
 use Rattle.laws.proofs.Bits.{set-same}
 use Rattle.laws.proofs.Choices.{clash, by-test}
+use Rattle.receiver.proofs.Quiet.{sampled}
 use Rattle.serial.proofs.Sending.{sendCounter}
-use Rattle.serial.proofs.Quiet.{sampled, rest-shift, rest-ticks}
+use Rattle.serial.proofs.Quiet.{rest-shift, rest-ticks}
 use Rattle.strides.proofs.Timers.{no-flags}
 use Rattle.strides.proofs.Serial.{quiet-serial, stride-still}
 use Rattle.strides.proofs.Steps.{steps-rest}

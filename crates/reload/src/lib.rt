@@ -2,6 +2,7 @@
 // n cycles by rounds. `l` is the pin byte as the kind takes it.
 ghost use mathlib.Core.Path.{_≡_};
 ghost use Prim.Native.Nat.{_≤_};
+ghost use Rattle.strides.specs.Stride.{settledAt};
 ghost use Rattle.reload.specs.Reload as Reload;
 use laws::least;
 use laws::picked;
@@ -28,24 +29,24 @@ fn timer1_alone(l: u8, t: Timers) -> bool
 fn line_rests(rxd: u8, s: Serial) -> bool
     ensures { λ r. ⌜ r ≡ Reload.lineRests rxd s ⌝ }
 {
-    !(serial::mode_of(s.scon) == 2) & !serial::start_found(rxd, s)
+    !(ticks::mode_of(s.scon) == 2) & !receiver::start_found(rxd, s)
 }
 
-// The device is settled, and Timer 1's reload is all that happens, Timer 2 not running. Timer 1 is asked first,
-// and the serial port before the whole device, which is dearer to hand on.
-pub fn idles(d: Device, l: u8) -> bool
+// In a settled device Timer 1's reload is all that happens, Timer 2 not running. Whether it is settled, the caller has asked.
+pub fn idles(d: Device, l: u8, settled: bool) -> bool
+    requires { ⌜ settled ≡ settledAt l d ⌝ }
     ensures { λ r. ⌜ r ≡ Reload.idlesAt l d ⌝ }
 {
+    if !settled {
+        return false;
+    }
     let t = d.timers;
     if !timer1_alone(l, t) {
         return false;
     }
     let s = d.serial;
-    if !quiet::settled_serial((l >> RXD) & 1, s) {
-        return false;
-    }
     let stops = ((d.timer2.t2con >> TR2) & 1) == 0;
-    (stops & line_rests((l >> RXD) & 1, s)) & quiet::settled(d, l)
+    stops & line_rests((l >> RXD) & 1, s)
 }
 
 // What a reload goes by: SMOD, RXD, and whether Timer 1 clocks the sender and the receiver.
@@ -69,7 +70,7 @@ pub struct Idling {
 fn clocks(scon: u8, clock: u8) -> bool
     ensures { λ r. ⌜ r ≡ Reload.clocks scon clock ⌝ }
 {
-    !(serial::mode_of(scon) == 0) & !(clock == 1)
+    !(ticks::mode_of(scon) == 0) & !(clock == 1)
 }
 
 fn clocking_of(d: Device, l: u8) -> Clocking
@@ -103,8 +104,8 @@ fn idling_of(d: Device) -> Idling
 fn reloaded(k: Clocking, x: Idling) -> Idling
     ensures { λ r. ⌜ r ≡ Reload.reloaded k x ⌝ }
 {
-    let tick = serial::ticks1(k.smod, x.half, 1);
-    let half = serial::half_after(k.smod, x.half, 1);
+    let tick = ticks::ticks1(k.smod, x.half, 1);
+    let half = ticks::half_after(k.smod, x.half, 1);
     let counter = std::num::wrapping_add_u8(x.counter, picked(k.sends, tick, 0)) & 15;
     let sample = picked(picked(k.receives, tick, 0) == 0, x.sample, k.rxd);
     Idling {

@@ -1,5 +1,4 @@
 pub mod Sending
-pub mod Receiving
 pub mod Ranges
 pub mod Quiet
 pub mod Rollover

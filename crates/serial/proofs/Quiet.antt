@@ -1,25 +1,20 @@
 -- A resting serial port: in mode 0, and without ticks, only half changes; ticks with no start bit waiting move the
 -- send counter and sample the line. By induction on the ticks.
-use mathlib.Core.Path.{_≡_, refl, ap, sym, _∙_}
-use mathlib.Core.Bool.{Bool, true, false, cond, _&&_, _||_, not, and-false}
+use mathlib.Core.Path.{_≡_, ap, _∙_}
+use mathlib.Core.Bool.{true, false, cond, _&&_, _||_, not}
 use Prim.Native.Nat.{ℕ, zero, suc, _+_, _%_, _≤_}
 use native.Mathlib.Omega.{arith}
-use lib.Dec.{eqb, eqb·suc-zero}
+use lib.Dec.{eqb}
 use borrow.Author.Tests.{eq-eqb, ne-eqb, eqb-true, eqb-false}
 use Rattle.machine.specs.declared.Serial.{Serial}
 use Rattle.machine.specs.declared.Ticks.{Ticks}
-use Rattle.machine.specs.Bits.{bit}
 use Rattle.machine.specs.Record.{serialMode}
-use Rattle.machine.specs.Registers.{REN}
 use Rattle.machine.specs.Serial as S
-use Rattle.machine.specs.Serial.{withReceive, withHalf, withSample, rollsOver, counterNext}
+use Rattle.machine.specs.Serial.{withHalf, rollsOver, counterNext}
 use Rattle.serial.specs.Rest.{idles}
 use Rattle.laws.proofs.Choices.{cond-same, and-left, and-right, by-test}
+use Rattle.receiver.proofs.Quiet.{sampled, rest-receive-ticks}
 use Rattle.serial.proofs.Sending.{sendCounter}
-
--- the last line sample at l
-abbrev pub sampled : ℕ → Serial → Serial
-sampled l s = withReceive (withSample l (s .receive)) s
 
 -- Sending
 
@@ -43,26 +38,6 @@ rest-send-ticks (suc n) s p h =
     let t = sendCounter (counterNext (s .send .counter)) s in
     let e : (counterNext (s .send .counter) + n) % 16 ≡ (s .send .counter + suc n) % 16 = omega arith in
     ap (S.sendTicks n) (rest-send-tick s p) ∙ rest-send-ticks n t p (omega arith) ∙ ap (λ (c : ℕ). sendCounter c s) e
-
--- Receiving
-
--- once the line is sampled no start bit waits
-none-sampled : (rxd : ℕ) (s : Serial) → S.startFound rxd (sampled rxd s) ≡ false
-unfolding S.startFound
-none-sampled zero s = and-false (eqb (bit REN (s .scon)) 1)
-none-sampled (suc n) s = simp (eqb·suc-zero, and-false)
-
-rest-tick : (rxd : ℕ) (s : Serial) → s .receive .position ≡ 0 → S.startFound rxd s ≡ false → S.receiveTick rxd s ≡ sampled rxd s
-unfolding S.receiveTick S.receiveStart
-rest-tick rxd s p w = simp (eq-eqb (s .receive .position) 0 p, w)
-
-pub rest-receive-ticks : (n rxd : ℕ) (s : Serial) → s .receive .position ≡ 0 → S.startFound rxd s ≡ false
-    → S.receiveTicks n rxd s ≡ sampled (cond (eqb n 0) (s .receive .sample) rxd) s
-unfolding S.receiveTicks
-rest-receive-ticks zero rxd s p w = refl
-rest-receive-ticks (suc n) rxd s p w =
-    ap (S.receiveTicks n rxd) (rest-tick rxd s p w) ∙ rest-receive-ticks n rxd (sampled rxd s) p (none-sampled rxd s)
-    ∙ ap (λ (l : ℕ). sampled l s) (cond-same (eqb n 0) rxd ∙ sym (ap (λ (z : Bool). cond z (s .receive .sample) rxd) (eqb·suc-zero n)))
 
 -- Step 5
 

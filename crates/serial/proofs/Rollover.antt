@@ -16,8 +16,9 @@ use Rattle.machine.specs.Serial as S
 use Rattle.machine.specs.Serial.{withSend, withReceive, sendAt, receiveAt, withVotes, withValue, sendCounted, counterNext, rollsOver}
 use Rattle.laws.specs.Ranges.{SerialOk, TicksOk}
 use Rattle.laws.proofs.Choices.{chosen, cond-has, by-test}
-use Rattle.serial.proofs.Receiving.{done-receive}
-use Rattle.serial.proofs.Ranges.{kept, send-kept}
+use Rattle.receiver.proofs.Receiving.{done-receive}
+use Rattle.receiver.proofs.Ranges.{kept}
+use Rattle.serial.proofs.Ranges.{send-kept}
 
 -- Sending
 

@@ -58,6 +58,11 @@ rise-add (suc m) n k pins d r h =
     (rise-add m n (suc k) pins (cycleOf pins d) (cycle-ranges d r pins) (cycle-room pins d r m h)
     ∙ ap (λ (j : ℕ). firstRise j n pins (cycles m pins (cycleOf pins d))) (omega arith))
 
+-- none of its cycles raises a flag
+pub rise-quiet : (m k pins : ℕ) (d : Device) → Ranges d → m ≤ room pins d → firstRise k m pins d ≡ Nothing
+rise-quiet m k pins d r h =
+    ap (λ (n : ℕ). firstRise k n pins d) (omega arith) ∙ (rise-add m 0 k pins d r h ∙ rise-none (k + m) 0 pins (cycles m pins d) (omega arith))
+
 rise-stride : (m n k pins : ℕ) (d : Device) → Ranges d → m ≤ room pins d → k + m ≤ n
     → firstRise k (n - k) pins d ≡ firstRise (k + m) (n - (k + m)) pins (cycles m pins d)
 rise-stride m n k pins d r h w = ap (λ (j : ℕ). firstRise k j pins d) (omega arith) ∙ rise-add m (n - (k + m)) k pins d r h

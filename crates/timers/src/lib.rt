@@ -1,11 +1,7 @@
 // Step 2 of a cycle: Timers 0 and 1.
 ghost use mathlib.Core.Path.{_≡_};
-ghost use mathlib.Core.Bool.{cond};
-ghost use Rattle.machine.specs.Counting as Counting;
 ghost use Rattle.machine.specs.Timers as Step;
 use laws::flagged;
-use laws::pair13;
-use laws::pair16;
 use laws::picked;
 use machine::Count;
 use machine::Timers;
@@ -22,83 +18,6 @@ use machine::places::TF0;
 use machine::places::TF1;
 use machine::places::TR0;
 use machine::places::TR1;
-
-// 1 where a count of 8 bits goes from all ones to zero.
-fn overflow8(n: u8) -> u8
-    ensures { λ r. ⌜ r ≡ Counting.overflow 8 n ⌝ }
-{
-    picked(std::num::wrapping_add_u8(n, 1) == 0, 1, 0)
-}
-
-// Mode 0: 13 bits, TH and the low 5 of TL; the top 3 of TL are kept.
-fn count13(tl: u8, th: u8) -> Count
-    ensures { λ r. ⌜ r ≡ Counting.count13 tl th ⌝ }
-{
-    let n = pair13(tl, th) + 1;
-    Count {
-        tl: (tl & 0xe0) | ((n & 0x1f) as u8),
-        th: ((n >> 5) & 0xff) as u8,
-        overflow: (n >> 13) as u8,
-    }
-}
-
-// Mode 1: 16 bits.
-fn count16(tl: u8, th: u8) -> Count
-    ensures { λ r. ⌜ r ≡ Counting.count16 tl th ⌝ }
-{
-    let n = std::num::wrapping_add_u16(pair16(tl, th), 1);
-    Count {
-        tl: (n & 0xff) as u8,
-        th: (n >> 8) as u8,
-        overflow: picked(n == 0, 1, 0),
-    }
-}
-
-// Mode 2: TL alone, reloaded from TH on overflow.
-fn reload8(tl: u8, th: u8) -> Count
-    ensures { λ r. ⌜ r ≡ Counting.reload8 tl th ⌝ }
-{
-    let over = overflow8(tl);
-    Count {
-        tl: picked(over == 1, th, std::num::wrapping_add_u8(tl, 1)),
-        th: th,
-        overflow: over,
-    }
-}
-
-// TL0 in mode 3: 8 bits.
-fn count8(tl: u8, th: u8) -> Count
-    ensures { λ r. ⌜ r ≡ Counting.count8 tl th ⌝ }
-{
-    Count {
-        tl: std::num::wrapping_add_u8(tl, 1),
-        th: th,
-        overflow: overflow8(tl),
-    }
-}
-
-// Timer 1 in mode 3, and a timer that does not count, hold.
-fn hold(tl: u8, th: u8) -> Count
-    ensures { λ r. ⌜ r ≡ Counting.hold tl th ⌝ }
-{
-    Count {
-        tl: tl,
-        th: th,
-        overflow: 0,
-    }
-}
-
-// One count in modes 0, 1 and 2; what mode 3 does is handed in.
-fn count_in(mode: u8, three: Count, tl: u8, th: u8) -> Count
-    ensures { λ r. ⌜ r ≡ Step.countIn mode three tl th ⌝ }
-{
-    match mode {
-        0 => count13(tl, th),
-        1 => count16(tl, th),
-        2 => reload8(tl, th),
-        _ => three,
-    }
-}
 
 // TRi = 1 and (GATE = 0 or the level of INTi = 1).
 pub fn enabled(run: u8, gate: u8, level: u8) -> bool
@@ -160,25 +79,14 @@ pub fn counts_high0(t: Timers) -> bool
     (timer0_mode(t) == 3) & (((t.tcon >> TR1) & 1) == 1)
 }
 
-// A timer's pair after this cycle: after a count in its mode, or as it was.
-fn pair_after(counts: bool, mode: u8, three: Count, tl: u8, th: u8) -> Count
-    ensures { λ r. ⌜ r ≡ cond counts (Step.countIn mode three tl th) (Counting.hold tl th) ⌝ }
-{
-    if counts {
-        count_in(mode, three, tl, th)
-    } else {
-        hold(tl, th)
-    }
-}
-
 // Timer 0's pair after this cycle's count; in mode 3 TL0 is 8 bits.
 fn pair0(t: Timers, pins: u8) -> Count
     ensures { λ r. ⌜ r ≡ Step.pair0 t pins ⌝ }
 {
-    pair_after(
+    counting::pair_after(
         counts0(t, pins),
         timer0_mode(t),
-        count8(t.tl0, t.th0),
+        counting::count8(t.tl0, t.th0),
         t.tl0,
         t.th0,
     )
@@ -195,17 +103,17 @@ fn high0(t: Timers, th: u8) -> u8
 fn high_overflow0(t: Timers, th: u8) -> u8
     ensures { λ r. ⌜ r ≡ Step.highOverflow0 t th ⌝ }
 {
-    picked(counts_high0(t), overflow8(th), 0)
+    picked(counts_high0(t), counting::overflow8(th), 0)
 }
 
 // Timer 1's pair after this cycle's count; in mode 3 it holds.
 fn pair1(t: Timers, pins: u8) -> Count
     ensures { λ r. ⌜ r ≡ Step.pair1 t pins ⌝ }
 {
-    pair_after(
+    counting::pair_after(
         counts1(t, pins),
         timer1_mode(t),
-        hold(t.tl1, t.th1),
+        counting::hold(t.tl1, t.th1),
         t.tl1,
         t.th1,
     )

@@ -1,4 +1,4 @@
--- `c51_lent::c51_cycle` meets its contract: the walk of `Lent.antt` around `c51::cycle`.
+-- `c51_lent::c51_cycle` meets its contract: the walk of `lent` around `c51_run::cycle`.
 use mathlib.Core.Path.{_≡_, refl, ap}
 use mathlib.Core.List.{[], _∷_, List}
 use mir.Syntax.{w8}
@@ -9,13 +9,13 @@ use denote.Triple.Spec.{tripleOf}
 use Rattle.machine.specs.Calls.{cycleAnswer}
 use Rattle.machine.specs.declared.CycleAnswer.{CycleAnswer}
 use Rattle.machine.proofs.CycleAnswer.Laws as R
-use Rattle.c51.proofs.cycle as cycle
-use Rattle.c51.proofs.cycle.Symbol as cycle-def
-use Rattle.c51.proofs.cycle.Symbol.{name as #c51·cycle}
-use Rattle.c51.proofs.cycle.Met as cycle-thm
+use Rattle.c51_run.proofs.cycle as cycle
+use Rattle.c51_run.proofs.cycle.Symbol as cycle-def
+use Rattle.c51_run.proofs.cycle.Symbol.{name as #c51-run·cycle}
+use Rattle.c51_run.proofs.cycle.Met as cycle-thm
 use Rattle.c51_lent.proofs.LineAnswer as N
 use Rattle.c51_lent.proofs.LineAnswer.Laws as N′
-use Rattle.c51_lent.proofs.Lent.{device-val, in-field, cycle-answer-carries, cycle-code, cycle-line, Bytes, two-bytes, number, Passed, values, in-order, asks-nothing, exported}
+use Rattle.lent.proofs.Lent.{device-val, in-field, cycle-answer-carries, cycle-code, cycle-line, Bytes, two-bytes, number, Passed, values, in-order, asks-nothing, exported}
 use Rattle.c51_lent.proofs.c51_cycle.Key.{name as #c51-lent·c51-cycle}
 use Rattle.c51_lent.proofs.c51_cycle as lent
 use Rattle.c51_lent.proofs.c51_cycle.Statement as stated
@@ -35,8 +35,8 @@ numbers = record {
 pub c51-cycle-spec : {M : Type 1} → stated.statement M
 unfolding code.routine
 c51-cycle-spec 𝓤 H 𝓜 𝓖 𝓡 =
-    exported 𝓤 H 𝓜 𝓖 𝓡 code.env #c51-lent·c51-cycle (in-field 2 cycle-answer-carries) (in-order params R.mir) (two-bytes 0 1 cycle-code cycle-line N.the-type numbers) #c51·cycle (code.unfolded 𝓤 H 𝓜 𝓡) (lent.clauses 𝓤 H (𝓖 .A) (𝓜 .mem) (𝓡 .run))
-    (tripleOf 𝓤 H (𝓖 .A) cycle.signature (cycle.spec 𝓤 H (𝓖 .A) (𝓜 .mem) (𝓡 .run))) cycle-def.routine code.calls-c51·cycle (cycle-thm.met 𝓤 H 𝓜 𝓖 𝓡)
+    exported 𝓤 H 𝓜 𝓖 𝓡 code.env #c51-lent·c51-cycle (in-field 2 cycle-answer-carries) (in-order params R.mir) (two-bytes 0 1 cycle-code cycle-line N.the-type numbers) #c51-run·cycle (code.unfolded 𝓤 H 𝓜 𝓡) (lent.clauses 𝓤 H (𝓖 .A) (𝓜 .mem) (𝓡 .run))
+    (tripleOf 𝓤 H (𝓖 .A) cycle.signature (cycle.spec 𝓤 H (𝓖 .A) (𝓜 .mem) (𝓡 .run))) cycle-def.routine code.calls-c51-run·cycle (cycle-thm.met 𝓤 H 𝓜 𝓖 𝓡)
     record {
       Told = λ κs h a r ws. r ≡ cycleAnswer h (a .0);
       to = λ κs qs h a. ((κs .1, qs .1, tt, (h, a), (device-val h ∷ [], values κs params a)), tt);

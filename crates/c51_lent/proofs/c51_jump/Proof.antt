@@ -1,4 +1,4 @@
--- `c51_lent::c51_jump` meets its contract: the walk of `Lent.antt` around `c51::jump`.
+-- `c51_lent::c51_jump` meets its contract: the walk of `lent` around `c51_run::jump`.
 use mathlib.Core.Path.{_≡_, refl, ap}
 use mathlib.Core.List.{[], _∷_, List}
 use mir.Syntax.{w8, w64}
@@ -8,11 +8,11 @@ use denote.Triple.Spec.{tripleOf}
 use Rattle.machine.specs.Calls.{jumpAnswer}
 use Rattle.machine.specs.declared.RunAnswer.{RunAnswer}
 use Rattle.machine.proofs.RunAnswer.Laws as R
-use Rattle.c51.proofs.jump as jump
-use Rattle.c51.proofs.jump.Symbol as jump-def
-use Rattle.c51.proofs.jump.Symbol.{name as #c51·jump}
-use Rattle.c51.proofs.jump.Met as jump-thm
-use Rattle.c51_lent.proofs.Lent.{device-val, in-field, run-answer-carries, run-code, one-byte, number, Passed, values, in-order, asks-nothing, exported}
+use Rattle.c51_run.proofs.jump as jump
+use Rattle.c51_run.proofs.jump.Symbol as jump-def
+use Rattle.c51_run.proofs.jump.Symbol.{name as #c51-run·jump}
+use Rattle.c51_run.proofs.jump.Met as jump-thm
+use Rattle.lent.proofs.Lent.{device-val, in-field, run-answer-carries, run-code, one-byte, number, Passed, values, in-order, asks-nothing, exported}
 use Rattle.c51_lent.proofs.c51_jump.Key.{name as #c51-lent·c51-jump}
 use Rattle.c51_lent.proofs.c51_jump as lent
 use Rattle.c51_lent.proofs.c51_jump.Statement as stated
@@ -24,8 +24,8 @@ params = number w8 ∷ number w64 ∷ []
 pub c51-jump-spec : {M : Type 1} → stated.statement M
 unfolding code.routine
 c51-jump-spec 𝓤 H 𝓜 𝓖 𝓡 =
-    exported 𝓤 H 𝓜 𝓖 𝓡 code.env #c51-lent·c51-jump (in-field 1 run-answer-carries) (in-order params R.mir) (one-byte 0 run-code) #c51·jump (code.unfolded 𝓤 H 𝓜 𝓡) (lent.clauses 𝓤 H (𝓖 .A) (𝓜 .mem) (𝓡 .run))
-    (tripleOf 𝓤 H (𝓖 .A) jump.signature (jump.spec 𝓤 H (𝓖 .A) (𝓜 .mem) (𝓡 .run))) jump-def.routine code.calls-c51·jump (jump-thm.met 𝓤 H 𝓜 𝓖 𝓡)
+    exported 𝓤 H 𝓜 𝓖 𝓡 code.env #c51-lent·c51-jump (in-field 1 run-answer-carries) (in-order params R.mir) (one-byte 0 run-code) #c51-run·jump (code.unfolded 𝓤 H 𝓜 𝓡) (lent.clauses 𝓤 H (𝓖 .A) (𝓜 .mem) (𝓡 .run))
+    (tripleOf 𝓤 H (𝓖 .A) jump.signature (jump.spec 𝓤 H (𝓖 .A) (𝓜 .mem) (𝓡 .run))) jump-def.routine code.calls-c51-run·jump (jump-thm.met 𝓤 H 𝓜 𝓖 𝓡)
     record {
       Told = λ κs h a r ws. r ≡ jumpAnswer h (a .0) (a .1 .0);
       to = λ κs qs h a. ((κs .1, qs .1, tt, (h, a), (device-val h ∷ [], values κs params a)), tt);

@@ -1,4 +1,4 @@
--- `c51_lent::c51_look` answers the numbers of the plain machine's look ahead: by cases of the answer of `c51::look`.
+-- `c51_lent::c51_look` answers the numbers of the plain machine's look ahead: by cases of the answer of `c51_run::look`.
 use mathlib.Core.Path.{sym}
 use borrow.Author.Needs.{needs}
 use Rattle.c51_lent.specs.Answers.{lookedAnswer}

@@ -1,4 +1,4 @@
--- `c51_lent::c51_offer` answers the numbers of the plain machine's offer: by cases of the answer of `c51::offer`.
+-- `c51_lent::c51_offer` answers the numbers of the plain machine's offer: by cases of the answer of `c51_interrupt::offer`.
 use mathlib.Core.Path.{sym}
 use borrow.Author.Needs.{needs}
 use Rattle.c51_lent.specs.Answers.{offeredAnswer}

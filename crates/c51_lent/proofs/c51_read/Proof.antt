@@ -1,4 +1,4 @@
--- `c51_lent::c51_read` answers the numbers of the plain machine's read: by cases of the answer of `c51::read`.
+-- `c51_lent::c51_read` answers the numbers of the plain machine's read: by cases of the answer of `c51_access::read`.
 use mathlib.Core.Path.{sym}
 use borrow.Author.Needs.{needs}
 use Rattle.c51_lent.specs.Answers.{valueAnswer}

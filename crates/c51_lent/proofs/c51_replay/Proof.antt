@@ -1,4 +1,4 @@
--- `c51_lent::c51_replay` meets its contract: the walk of `Lent.antt` around `lists::replay`, to which the answers' slice is lent on
+-- `c51_lent::c51_replay` meets its contract: the walk of `lent` around `lists::replay`, to which the answers' slice is lent on
 -- whole.
 use mathlib.Core.Path.{refl}
 use mathlib.Core.List.{[], _∷_, List}
@@ -19,8 +19,8 @@ use Rattle.lists.proofs.replay as replay
 use Rattle.lists.proofs.replay.Symbol as replay-def
 use Rattle.lists.proofs.replay.Symbol.{name as #lists·replay}
 use Rattle.lists.proofs.replay.Met as replay-thm
-use Rattle.c51_lent.proofs.Locals.{in-snd, first-cell}
-use Rattle.c51_lent.proofs.Lent.{device-val, itself, no-result, read-slice, altered-slice, Passed, Others, values, vals, Way, asks-nothing, exported}
+use Rattle.lent.proofs.Locals.{in-snd, first-cell}
+use Rattle.lent.proofs.Lent.{device-val, itself, no-result, read-slice, altered-slice, Passed, Others, values, vals, Way, asks-nothing, exported}
 use Rattle.c51_lent.proofs.c51_replay.Key.{name as #c51-lent·c51-replay}
 use Rattle.c51_lent.proofs.c51_replay as lent
 use Rattle.c51_lent.proofs.c51_replay.Statement as stated

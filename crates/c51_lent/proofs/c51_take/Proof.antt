@@ -1,4 +1,4 @@
--- `c51_lent::c51_take` meets its contract: the walk of `Lent.antt` around `c51::take`.
+-- `c51_lent::c51_take` meets its contract: the walk of `lent` around `c51_interrupt::take`.
 use mathlib.Core.Path.{_≡_, refl, ap}
 use mathlib.Core.List.{[], _∷_, List}
 use base.Logic.{emp, id⊢}
@@ -8,13 +8,13 @@ use denote.Triple.Spec.{tripleOf}
 use Rattle.machine.specs.Calls.{takeAnswer}
 use Rattle.machine.specs.declared.TakeAnswer.{TakeAnswer}
 use Rattle.machine.proofs.TakeAnswer.Laws as R
-use Rattle.c51.proofs.take as take
-use Rattle.c51.proofs.take.Symbol as take-def
-use Rattle.c51.proofs.take.Symbol.{name as #c51·take}
-use Rattle.c51.proofs.take.Met as take-thm
+use Rattle.c51_interrupt.proofs.take as take
+use Rattle.c51_interrupt.proofs.take.Symbol as take-def
+use Rattle.c51_interrupt.proofs.take.Symbol.{name as #c51-interrupt·take}
+use Rattle.c51_interrupt.proofs.take.Met as take-thm
 use Rattle.c51_lent.proofs.VectorAnswer as N
 use Rattle.c51_lent.proofs.VectorAnswer.Laws as N′
-use Rattle.c51_lent.proofs.Lent.{device-val, in-field, take-answer-carries, take-code, take-vector, Bytes, two-bytes, Passed, values, in-order, asks-nothing, exported}
+use Rattle.lent.proofs.Lent.{device-val, in-field, take-answer-carries, take-code, take-vector, Bytes, two-bytes, Passed, values, in-order, asks-nothing, exported}
 use Rattle.c51_lent.proofs.c51_take.Key.{name as #c51-lent·c51-take}
 use Rattle.c51_lent.proofs.c51_take as lent
 use Rattle.c51_lent.proofs.c51_take.Statement as stated
@@ -34,8 +34,8 @@ numbers = record {
 pub c51-take-spec : {M : Type 1} → stated.statement M
 unfolding code.routine
 c51-take-spec 𝓤 H 𝓜 𝓖 𝓡 =
-    exported 𝓤 H 𝓜 𝓖 𝓡 code.env #c51-lent·c51-take (in-field 2 take-answer-carries) (in-order params R.mir) (two-bytes 0 1 take-code take-vector N.the-type numbers) #c51·take (code.unfolded 𝓤 H 𝓜 𝓡) (lent.clauses 𝓤 H (𝓖 .A) (𝓜 .mem) (𝓡 .run))
-    (tripleOf 𝓤 H (𝓖 .A) take.signature (take.spec 𝓤 H (𝓖 .A) (𝓜 .mem) (𝓡 .run))) take-def.routine code.calls-c51·take (take-thm.met 𝓤 H 𝓜 𝓖 𝓡)
+    exported 𝓤 H 𝓜 𝓖 𝓡 code.env #c51-lent·c51-take (in-field 2 take-answer-carries) (in-order params R.mir) (two-bytes 0 1 take-code take-vector N.the-type numbers) #c51-interrupt·take (code.unfolded 𝓤 H 𝓜 𝓡) (lent.clauses 𝓤 H (𝓖 .A) (𝓜 .mem) (𝓡 .run))
+    (tripleOf 𝓤 H (𝓖 .A) take.signature (take.spec 𝓤 H (𝓖 .A) (𝓜 .mem) (𝓡 .run))) take-def.routine code.calls-c51-interrupt·take (take-thm.met 𝓤 H 𝓜 𝓖 𝓡)
     record {
       Told = λ κs h a r ws. r ≡ takeAnswer h;
       to = λ κs qs h a. ((κs .1, qs .1, tt, (h, a), (device-val h ∷ [], values κs params a)), tt);

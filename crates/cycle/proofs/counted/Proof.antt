@@ -9,4 +9,4 @@ unfolding counted
 returns c = simp (c .timer2-step .ensures, c .before .falls .ensures, c .before .before .timers-step .ensures)
 
 pub counted-spec : {M : Type 1} → statement M
-counted-spec = tie.close (tie.spec (search needs) (search needs) (search needs) returns)
+counted-spec = tie.close (tie.spec (search needs) (λ c κs. (search needs, c .before .before .pre)) (search needs) returns)

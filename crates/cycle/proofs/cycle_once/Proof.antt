@@ -2,12 +2,16 @@
 -- the record check.
 use native.Mathlib.Omega.{arith}
 use Rattle.laws.proofs.Bits.{bits, and-one}
-use Rattle.registers.proofs.Accepted.{ranges-of}
+use Rattle.record.proofs.Accepted.{ranges-of}
 use Rattle.cycle.proofs.Keeps.{few-ticks-of}
 use Rattle.cycle.proofs.Steps.{once-is}
 use borrow.Author.Needs.{needs}
 use Rattle.cycle.proofs.cycle_once.Statement.{statement}
 use Rattle.cycle.proofs.cycle_once.Tie as tie
+
+counted-requires : tie.Need-counted-requires
+counted-requires c κs = let a = c .before in
+    ranges-of (a .args .d) (a .pre) .levels
 
 rolls-twice-requires : tie.Need-rolls-twice-requires
 rolls-twice-requires c κs =
@@ -21,6 +25,14 @@ serial-step-requires c κs =
     let a = k .before .before .before in
     let r = ranges-of (a .args .d) (a .pre) in
     (few-ticks-of (a .args .d) r _ (k .before .counted .ensures) (k .ticks-in .ensures), (omega (arith, and-one (a .args .pins) 0), r .serial))
+
+timers-after-requires : tie.Need-timers-after-requires
+timers-after-requires c κs = let a = c .before .before .before .before .before in
+    ranges-of (a .args .d) (a .pre) .levels
+
+timer2-after-requires : tie.Need-timer2-after-requires
+timer2-after-requires c κs = let a = c .before .before .before .before .before .before in
+    ranges-of (a .args .d) (a .pre) .levels
 
 returns : tie.Need-returns
 returns c =
@@ -43,12 +55,12 @@ pub cycle-once-spec : {M : Type 1} → statement M
 cycle-once-spec =
     tie.close
     (tie.spec
-    (search needs)
+    counted-requires
     (search needs)
     rolls-twice-requires
     serial-step-requires
-    (search needs)
-    (search needs)
+    timers-after-requires
+    timer2-after-requires
     (search needs)
     (search needs)
     (search needs)

@@ -9,4 +9,4 @@ unfolding timer2After
 returns c = cc
 
 pub timer2-after-spec : {M : Type 1} → statement M
-timer2-after-spec = tie.close (tie.spec (search needs) returns)
+timer2-after-spec = tie.close (tie.spec (λ c κs. (search needs, c .pre)) returns)

@@ -14,4 +14,6 @@ returns c =
 pub timers-after-spec : {M : Type 1} → statement M
 timers-after-spec =
     tie.close
-    (tie.spec (search needs) (search needs) (search needs) (search needs) (search needs) (search needs) returns)
+    (tie.spec (λ c κs. (search needs, c .pre)) (λ c κs. (search needs, c .before .pre)) (search needs) (search needs)
+    (λ c κs. (search needs, c .before .before .before .before .pre))
+    (λ c κs. (search needs, c .before .before .before .before .before .pre)) returns)

@@ -9,7 +9,7 @@ use borrow.Author.Needs.{needs}
 use Rattle.jump.specs.Rounds.{Ready}
 use Rattle.jump.proofs.Keeps.{none-refused9}
 use Rattle.jump.proofs.Idles.{idle-on}
-use Rattle.jump.proofs.Rounds.{round-used, round-ready, round-passes, round-on}
+use Rattle.jump.proofs.Rounds.{quiet-on, round-used, round-ready, round-passes, round-on}
 use Rattle.jump.proofs.advance.Statement.{statement}
 use Rattle.jump.proofs.advance.Tie as tie
 
@@ -22,22 +22,40 @@ abbrev μ-loop : tie.MeasureT-loop
 loop-holds : tie.Need-loop-holds Inv-loop μ-loop
 loop-holds c = (c .pre .0, omega arith, refl)
 
+idles-requires : tie.Need-idles-requires Inv-loop μ-loop
+idles-requires c κs = c .ahead .ensures .0
+
 returns : tie.Need-returns Inv-loop μ-loop
 returns c =
     let q = c .before .before in
-    let w = q .before .before in
+    let w = q .before .before .before in
     let a = w .before in
     record {
       refused = sym (none-refused9 (a .args .n) (a .args .pins) (a .args .d) (a .pre .0 .good));
       reaches = λ e. idle-on (a .args .pins) (w .loop .at) (w .loop .inv .0) (q .idles .ensures) (c .before .if1 .taken) (w .loop .left) (c .idle .ensures) (w .loop .inv .2);
     }
 
-one-round-requires : tie.Need-one-round-requires Inv-loop μ-loop
-one-round-requires c κs = (c .before .before .before .loop .inv .0, omega arith, omega arith)
+stride-requires : tie.Need-stride-requires Inv-loop μ-loop
+stride-requires c κs = omega (arith, c .before .before .before .before .ahead .ensures .1)
 
 returns-2 : tie.Need-returns-2 Inv-loop μ-loop
-returns-2 c = let r = c .before .one-round .ensures in
-    absurd (clash (c .if2 .taken) (round-passes _ _ _ r (omega arith) (c .before .before .before .before .before .loop .inv .0 .good)))
+returns-2 c =
+    let h = c .before .before .before .before .before in
+    let w = h .before .before in
+    let a = w .before in
+    record {
+      refused = sym (none-refused9 (a .args .n) (a .args .pins) (a .args .d) (a .pre .0 .good));
+      reaches = λ e. quiet-on (a .args .pins) (w .loop .left) (w .loop .at) (w .loop .inv .0) (h .ahead .ensures .1) (c .before .if2 .taken) (c .stride .ensures) (w .loop .inv .2);
+    }
+
+one-round-requires : tie.Need-one-round-requires Inv-loop μ-loop
+one-round-requires c κs =
+    let h = c .before .before .before .before in
+    (h .before .before .loop .inv .0, omega arith, omega arith, h .ahead .ensures .1)
+
+returns-3 : tie.Need-returns-3 Inv-loop μ-loop
+returns-3 c = let r = c .before .one-round .ensures in
+    absurd (clash (c .if3 .taken) (round-passes _ _ _ r (omega arith) (c .before .before .before .before .before .before .before .before .loop .inv .0 .good)))
 
 sub-left : tie.Need-sub-left Inv-loop μ-loop
 sub-left c = round-used _ _ _ (c .before .before .before .one-round .ensures) (omega arith) .1
@@ -50,11 +68,11 @@ loop-less c =
 loop-again : tie.Need-loop-again Inv-loop μ-loop
 loop-again c =
     let r = c .before .before .before in
-    let i = r .before .before .before .before .loop .inv in
+    let i = r .before .before .before .before .before .before .before .loop .inv in
     (round-ready _ _ _ (r .one-round .ensures) (omega arith) (i .0), omega arith, round-on _ _ _ (r .one-round .ensures) (omega arith) (i .2))
 
-returns-3 : tie.Need-returns-3 Inv-loop μ-loop
-returns-3 c = let i = c .before .loop .inv in
+returns-4 : tie.Need-returns-4 Inv-loop μ-loop
+returns-4 c = let i = c .before .loop .inv in
     let a = c .before .before in
     record {
       refused = sym (none-refused9 (a .args .n) (a .args .pins) (a .args .d) (a .pre .0 .good));
@@ -64,5 +82,5 @@ returns-3 c = let i = c .before .loop .inv in
 pub advance-spec : {M : Type 1} → statement M
 advance-spec =
     tie.close
-    (tie.spec Inv-loop μ-loop loop-holds (search needs) (search needs) returns one-round-requires returns-2 sub-left
-    loop-less loop-again returns-3)
+    (tie.spec Inv-loop μ-loop loop-holds (search needs) idles-requires (search needs) returns stride-requires returns-2
+    one-round-requires returns-3 sub-left loop-less loop-again returns-4)

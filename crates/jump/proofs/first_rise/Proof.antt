@@ -5,7 +5,7 @@ use native.Mathlib.Omega.{arith}
 use Rattle.machine.specs.Calls.{firstRise}
 use Rattle.strides.proofs.Rises.{on-none}
 use Rattle.jump.specs.Rounds.{Ready}
-use Rattle.jump.proofs.Rounds.{round-used, round-ready, look-here, look-on}
+use Rattle.jump.proofs.Rounds.{quiet-look, round-used, round-ready, look-here, look-on}
 use Rattle.jump.proofs.Idles.{idle-look}
 use borrow.Author.Needs.{needs}
 use Rattle.jump.proofs.first_rise.Statement.{statement}
@@ -20,26 +20,37 @@ abbrev μ-loop : tie.MeasureT-loop
 loop-holds : tie.Need-loop-holds Inv-loop μ-loop
 loop-holds c = (c .pre .0, omega arith, ap (λ (k : ℕ). firstRise 0 k (c .args .pins) (c .args .d)) (omega arith))
 
+idles-requires : tie.Need-idles-requires Inv-loop μ-loop
+idles-requires c κs = c .ahead .ensures .0
+
 returns : tie.Need-returns Inv-loop μ-loop
 returns c =
     let q = c .before in
-    let w = q .before .before in
+    let w = q .before .before .before in
     idle-look (w .before .args .pins) (w .loop .at) (w .loop .inv .0) (q .idles .ensures) (c .if1 .taken) (w .loop .done) (w .before .args .n - w .loop .done) (w .loop .inv .2)
 
-sub-one-round : tie.Need-sub-one-round Inv-loop μ-loop
-sub-one-round c = omega arith
+sub-left : tie.Need-sub-left Inv-loop μ-loop
+sub-left c = omega arith
+
+returns-2 : tie.Need-returns-2 Inv-loop μ-loop
+returns-2 c =
+    let h = c .before .before .before .before in
+    let w = h .before .before in
+    quiet-look (w .before .args .pins) (w .before .args .n - w .loop .done) (w .loop .at) (w .loop .inv .0) (h .ahead .ensures .1) (c .if2 .taken) (w .loop .done) (w .loop .inv .2)
 
 one-round-requires : tie.Need-one-round-requires Inv-loop μ-loop
-one-round-requires c κs = (c .before .before .before .loop .inv .0, omega arith, omega arith)
+one-round-requires c κs =
+    let h = c .before .before .before .before in
+    (h .before .before .loop .inv .0, omega arith, omega arith, h .ahead .ensures .1)
 
 add-done : tie.Need-add-done Inv-loop μ-loop
 add-done c = omega (arith, round-used _ _ _ (c .before .before .one-round .ensures) (omega arith))
 
-returns-2 : tie.Need-returns-2 Inv-loop μ-loop
-returns-2 c = let o = c .before .before .before .before in
-    let t = o .before .before .before in
+returns-3 : tie.Need-returns-3 Inv-loop μ-loop
+returns-3 c = let o = c .before .before .before .before in
+    let t = o .before .before .before .before .before .before in
     let l = t .before in
-    look-here _ _ _ _ (t .loop-test .taken) (o .one-round .ensures) (l .loop .inv .0 .good) (l .loop .inv .2) (sym (c .before .rose .ensures) ∙ c .if2 .taken)
+    look-here _ _ _ _ (t .loop-test .taken) (o .one-round .ensures) (l .loop .inv .0 .good) (l .loop .inv .2) (sym (c .before .rose .ensures) ∙ c .if3 .taken)
 
 loop-less : tie.Need-loop-less Inv-loop μ-loop
 loop-less c = let o = c .before .before .before .before in
@@ -47,18 +58,18 @@ loop-less c = let o = c .before .before .before .before in
 
 loop-again : tie.Need-loop-again Inv-loop μ-loop
 loop-again c = let o = c .before .before .before .before in
-    let t = o .before .before .before in
+    let t = o .before .before .before .before .before .before in
     let l = t .before in (
       round-ready _ _ _ (o .one-round .ensures) (omega arith) (l .loop .inv .0),
       omega (arith, round-used _ _ _ (o .one-round .ensures) (omega arith)),
-      look-on _ _ _ _ (t .loop-test .taken) (o .one-round .ensures) (l .loop .inv .0 .good) (l .loop .inv .2) (sym (c .before .rose .ensures) ∙ c .if2 .left),
+      look-on _ _ _ _ (t .loop-test .taken) (o .one-round .ensures) (l .loop .inv .0 .good) (l .loop .inv .2) (sym (c .before .rose .ensures) ∙ c .if3 .left),
     )
 
-returns-3 : tie.Need-returns-3 Inv-loop μ-loop
-returns-3 c = on-none _ _ _ _ (c .before .loop .inv .2) (c .loop-test .left)
+returns-4 : tie.Need-returns-4 Inv-loop μ-loop
+returns-4 c = on-none _ _ _ _ (c .before .loop .inv .2) (c .loop-test .left)
 
 pub first-rise-spec : {M : Type 1} → statement M
 first-rise-spec =
     tie.close
-    (tie.spec Inv-loop μ-loop loop-holds (search needs) returns sub-one-round one-round-requires add-done
-    (search needs) returns-2 loop-less loop-again returns-3)
+    (tie.spec Inv-loop μ-loop loop-holds (search needs) idles-requires returns sub-left returns-2 one-round-requires
+    add-done (search needs) returns-3 loop-less loop-again returns-4)

@@ -9,23 +9,23 @@ use Rattle.jump.proofs.one_round.Tie as tie
 returns : tie.Need-returns
 returns c =
     let t = c .before .before in
-    let s = t .before .before in
+    let s = t .before in
     let a = s .args in
     let y = s .pre .0 in
     round-busy (a .pins) (a .left) (a .d) y (c .before .cycle-once .ensures)
-    (sym (room-is (a .pins) (a .d) y (t .before .room .ensures)) ∙ t .if1 .taken)
+    (sym (room-is (a .pins) (a .d) y (s .pre .3)) ∙ t .if1 .taken)
 
 returns-2 : tie.Need-returns-2
 returns-2 c =
     let t = c .before .before in
-    let s = t .before .before in
+    let s = t .before in
     let a = s .args in
     let y = s .pre .0 in
-    let q = room-is (a .pins) (a .d) y (t .before .room .ensures) in
+    let q = room-is (a .pins) (a .d) y (s .pre .3) in
     round-quiet (a .pins) (a .left) (a .d) (y .good) (omega arith) (omega (arith, c .before .least .ensures))
     (stride-is (a .pins) (a .d) y _ (c .stride .ensures))
 
 pub one-round-spec : {M : Type 1} → statement M
 one-round-spec =
     tie.close
-    (tie.spec (search needs) (λ c κs. search needs) (search needs) (λ c κs. search needs) returns returns-2)
+    (tie.spec (λ c κs. search needs) (search needs) (λ c κs. search needs) returns returns-2)

@@ -4,8 +4,9 @@ use mathlib.Core.Path.{sym, subst, _∙_}
 use native.Mathlib.Omega.{arith}
 use Rattle.machine.specs.Record.{serialMode}
 use Rattle.machine.specs.Serial.{withHalf}
+use Rattle.receiver.proofs.Ranges.{Kept}
 use Rattle.serial.proofs.Quiet.{rest-idles}
-use Rattle.serial.proofs.Ranges.{Kept, ok, sends-below, ticks-kept, half-kept, step-shift, step-ticks}
+use Rattle.serial.proofs.Ranges.{ok, sends-below, ticks-kept, half-kept, step-shift, step-ticks}
 use borrow.Author.Needs.{needs}
 use Rattle.serial.proofs.serial_step.Statement.{statement}
 use Rattle.serial.proofs.serial_step.Tie as tie

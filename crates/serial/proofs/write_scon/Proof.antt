@@ -8,7 +8,7 @@ use Rattle.machine.specs.declared.Serial.{Serial}
 use Rattle.machine.specs.Record.{serialMode}
 use Rattle.machine.specs.Serial.{withSend, withReceive, sendAt, receiveAt, receiveAsked, writeScon}
 use Rattle.laws.proofs.Bits.{low1}
-use Rattle.serial.proofs.Receiving.{asked}
+use Rattle.receiver.proofs.Receiving.{asked}
 use Rattle.serial.proofs.write_scon.Statement.{statement}
 use Rattle.serial.proofs.write_scon.Tie as tie
 

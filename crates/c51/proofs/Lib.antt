@@ -1,3 +1,0 @@
-pub mod Guards
-pub mod Accepted
-pub mod Promises

@@ -1,0 +1,49 @@
+-- A look ahead answers what the plain machine answers: no cycle of an accepted device is refused by 9, so that the first rise is the
+-- answer.
+use borrow.Author.Tests.{le-leb, lt-leb}
+use Rattle.machine.specs.Calls.{lookAnswer}
+use Rattle.machine.specs.Lists.{play, replyOfLook}
+use Rattle.jump.proofs.Keeps.{none-refused9}
+use Rattle.jump.proofs.Taken.{ready-taken, look-taken}
+use borrow.Author.Needs.{needs}
+use Rattle.laws.proofs.Guards.{yes, no, told}
+use Rattle.c51_run.proofs.look.Statement.{statement}
+use Rattle.c51_run.proofs.look.Tie as tie
+
+returns : tie.Need-returns
+unfolding lookAnswer play
+returns c = told replyOfLook (rw (no (c .before .accepts .ensures) (c .if1 .taken)))
+
+returns-2 : tie.Need-returns-2
+unfolding lookAnswer play
+returns-2 c =
+    let p = c .before in
+    told replyOfLook (rw (yes (p .before .before .accepts .ensures) (p .before .if1 .left), no (p .pins-ok .ensures) (c .if2 .taken)))
+
+returns-3 : tie.Need-returns-3
+unfolding lookAnswer play
+returns-3 c =
+    let p = c .before .before in
+    told replyOfLook (rw (yes (p .before .before .accepts .ensures) (p .before .if1 .left), yes (p .pins-ok .ensures) (c .before .if2 .left), lt-leb _ _ (c .if3 .taken)))
+
+first-rise-requires : tie.Need-first-rise-requires
+first-rise-requires c κs =
+    let n = c .before in
+    let p = n .before .before in
+    let x = p .before .before .before .args in
+    (ready-taken (x .pins) (x .d) (c .pins-of .ensures) (yes (p .before .before .accepts .ensures) (p .before .if1 .left)), n .if3 .left)
+
+returns-4 : tie.Need-returns-4
+unfolding lookAnswer play
+returns-4 c =
+    let l = c .before in
+    let n = l .before in
+    let p = n .before .before in
+    let x = p .before .before .before .args in
+    let ok = yes (p .before .before .accepts .ensures) (p .before .if1 .left) in
+    let first = look-taken (x .pins) (x .d) (l .pins-of .ensures) 0 (x .n) (c .first-rise .ensures) in
+    told replyOfLook (rw (ok, yes (p .pins-ok .ensures) (n .before .if2 .left), le-leb _ _ (n .if3 .left), none-refused9 (x .n) (x .pins) (x .d) ok) first)
+
+pub look-spec : {M : Type 1} → statement M
+look-spec =
+    tie.close (tie.spec (search needs) returns (search needs) returns-2 returns-3 (search needs) first-rise-requires returns-4)

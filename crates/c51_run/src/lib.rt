@@ -1,0 +1,92 @@
+// The public calls in which time passes. Each answers what the plain machine answers, on every record, pin byte, length and trace:
+// its refusals in their order, and then the call. Nothing else is exported.
+ghost use mathlib.Core.Path.{_≡_};
+ghost use Rattle.machine.specs.Calls as Machine;
+ghost use Rattle.machine.specs.Lists.{Call, play, replyOfLook};
+use answers::passed_cycle;
+use answers::passed_run;
+use answers::pins_ok;
+use answers::refuse_cycle;
+use answers::refuse_run;
+use machine::CycleAnswer;
+use machine::Device;
+use machine::LONGEST;
+use machine::LookAnswer;
+use machine::RunAnswer;
+use machine::refusals::BAD_PINS;
+use machine::refusals::BAD_RECORD;
+use machine::refusals::PASSED;
+use machine::refusals::ROLLED_TWICE;
+use machine::refusals::TOO_LONG;
+
+// One machine cycle with a pin byte, and the output line as it leaves it.
+pub fn cycle(d: Device, pins: u8) -> CycleAnswer
+    ensures { λ r. ⌜ r ≡ Machine.cycleAnswer d pins ⌝ }
+{
+    if !record::accepts(d) {
+        return refuse_cycle(BAD_RECORD, d);
+    }
+    if !pins_ok(pins) {
+        return refuse_cycle(BAD_PINS, d);
+    }
+    let once = cycle::cycle_once(d, cycle::pins_of(d.kind, pins));
+    if once.twice {
+        return refuse_cycle(ROLLED_TWICE, d);
+    }
+    passed_cycle(once.device)
+}
+
+// A jump of n cycles with one pin byte.
+pub fn jump(d: Device, pins: u8, n: u64) -> RunAnswer
+    ensures { λ r. ⌜ r ≡ Machine.jumpAnswer d pins n ⌝ }
+{
+    if !record::accepts(d) {
+        return refuse_run(BAD_RECORD, d);
+    }
+    if !pins_ok(pins) {
+        return refuse_run(BAD_PINS, d);
+    }
+    if n > LONGEST {
+        return refuse_run(TOO_LONG, d);
+    }
+    let run = jump::advance(d, cycle::pins_of(d.kind, pins), n);
+    if run.twice {
+        return refuse_run(ROLLED_TWICE, d);
+    }
+    passed_run(run.device)
+}
+
+// A trace run, each entry a pin byte on top and cycles in the low 24 bits; the entries are judged whole, in an order of their own.
+pub fn trace(d: Device, entries: &[u32]) -> RunAnswer
+    ensures { λ r. ⌜ r ≡ Machine.traceAnswer d (now (entries .entry)) ⌝ }
+{
+    if !record::accepts(d) {
+        return refuse_run(BAD_RECORD, d);
+    }
+    let fault = traces::trace_fault(entries);
+    if fault != PASSED {
+        return refuse_run(fault, d);
+    }
+    let ran = traces::run_entries(d, entries);
+    if ran.twice {
+        return refuse_run(ROLLED_TWICE, d);
+    }
+    passed_run(ran.device)
+}
+
+// A look ahead over n cycles with one pin byte, the first in which a flag rises. No cycle of an accepted device meets ROLLED_TWICE,
+// so that it may stop there.
+pub fn look(d: Device, pins: u8, n: u64) -> LookAnswer
+    ensures { λ r. ⌜ (r ≡ Machine.lookAnswer d pins n) × (replyOfLook r ≡ play (Call.look pins n) d .reply) ⌝ }
+{
+    if !record::accepts(d) {
+        return LookAnswer::Refused(BAD_RECORD);
+    }
+    if !pins_ok(pins) {
+        return LookAnswer::Refused(BAD_PINS);
+    }
+    if n > LONGEST {
+        return LookAnswer::Refused(TOO_LONG);
+    }
+    jump::first_rise(d, cycle::pins_of(d.kind, pins), n)
+}

@@ -1,0 +1,3 @@
+pub mod Receiving
+pub mod Ranges
+pub mod Quiet
