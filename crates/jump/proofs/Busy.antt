@@ -50,9 +50,9 @@ module _ (pins left : ℕ) (d : Device) (a : accepted d ≡ true) (some : 1 ≤ 
   pub crossed-round : (r : Round) → Crossed pins left d r → RoundOf pins left d (r .used)
   crossed-round r c = subst (RoundOf pins left d) (sym (c .used)) used-round
 
-  pub round-promises : (r : Round) → one-round-reads.Learnt tt (d, (pins, (left, (room pins d, tt)))) r (d, (pins, (left, (room pins d, tt))))
+  pub round-promises : (m : ℕ) (r : Round) → one-round-reads.Learnt tt (d, (pins, (left, (m, tt)))) r (d, (pins, (left, (m, tt))))
       → RoundOf pins left d (r .used)
-  round-promises r c = crossed-round r c
+  round-promises m r c = crossed-round r c
 
   -- a quiet run to the end
   pub last-round : left ≤ room pins d → RoundOf pins left d left
