@@ -19,7 +19,8 @@
 extern "C" {
 #endif
 
-/* The codes. */
+/* The codes. 9 is retired and is not used again: it stood for a serial counter that rolls over twice in one cycle, which is proved
+ * never to happen. */
 enum {
     C51_PASSED = 0,
     C51_BAD_RECORD = 1,         /* a field outside its range or mask, or a kind that is neither 51 nor 52 */
@@ -29,8 +30,7 @@ enum {
     C51_TOO_LONG = 5,           /* more than C51_MAX_CYCLES cycles, or a trace of more than C51_MAX_TRACE entries */
     C51_NOTHING_OFFERED = 6,    /* take with nothing offered */
     C51_NOTHING_IN_SERVICE = 7, /* return with nothing in service */
-    C51_EMPTY_ENTRY = 8,        /* a trace entry of 0 cycles */
-    C51_ROLLED_TWICE = 9        /* a serial counter rolls over twice in one cycle; an accepted record never meets it */
+    C51_EMPTY_ENTRY = 8         /* a trace entry of 0 cycles */
 };
 
 #define C51_MAX_CYCLES ((uint64_t)1 << 40) /* of one jump or look ahead */
@@ -189,16 +189,16 @@ typedef struct {
  * with REN 1 and RI 0 it asks to receive. Refusals: 1, 3. */
 uint8_t c51_write(c51_device *device, uint8_t address, uint8_t value);
 
-/* One machine cycle. Refusals: 1, 4, 9. */
+/* One machine cycle. Refusals: 1, 4. */
 c51_line_answer c51_cycle(c51_device *device, uint8_t pins);
 
 /* n cycles, 0 to C51_MAX_CYCLES, with one pin byte. A jump costs by its rounds: one for each busy cycle (an overflow, a frame under way, a
- * flag that changes) and one for each quiet run between them; 2^40 busy cycles take about a day. Refusals: 1, 4, 5, 9. */
+ * flag that changes) and one for each quiet run between them; 2^40 busy cycles take about a day. Refusals: 1, 4, 5. */
 uint8_t c51_jump(c51_device *device, uint8_t pins, uint64_t n);
 
 /* Runs a trace of count entries, checked whole before it runs: the pin byte in the top 8 bits of an entry, 1 to
  * 16,777,215 cycles in the other 24. entries points to count numbers and is never NULL, even where count is 0.
- * Refusals: 1, 5, 4, 8, 9. */
+ * Refusals: 1, 5, 4, 8. */
 uint8_t c51_trace(c51_device *device, const uint32_t *entries, size_t count);
 
 /* Takes the interrupt that is offered: its level is in service, its bit leaves seen and polled, and TF0, TF1 or an edge-triggered
@@ -220,7 +220,7 @@ c51_value_answer c51_read(c51_device device, uint8_t address);
 c51_offer_answer c51_offer(c51_device device);
 
 /* The first of the next n cycles in which one of TF0, TF1, IE0, IE1, RI, TI, TF2, EXF2 goes from 0 to 1 under this pin byte, or none.
- * Refusals: 1, 4, 5. No cycle of an accepted device meets 9, so that it may stop there. */
+ * Refusals: 1, 4, 5. */
 c51_look_answer c51_look(c51_device device, uint8_t pins, uint64_t n);
 
 /* 1 where the record is accepted, 0 where every call but reset refuses it by 1. */

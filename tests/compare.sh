@@ -2,9 +2,10 @@
 # compare.sh [SEEDS [LINES [FIRST]]]: dist/replay against the model by other hands, on the scripts of the model's
 # generator, of every style, and on the same scripts damaged. SEEDS scripts of LINES lines for each style, seeds FIRST
 # and up. Only a call that is out of reach is shortened (rust/compare/src/reach.rs); all else is as generated. Without
-# arguments it is the fixed run.
+# arguments it is the fixed run. tests/stage has the model's stage: the N for which requests One to N have landed.
 cd "$(dirname "$0")/.." || exit 1
 least_calls=300000
+stage=$(cat tests/stage) || exit 1
 for number in "$@"; do
     case $number in
     0* | *[!0-9]* | '') echo "compare: wants whole numbers from 1 on, not '$number'" >&2; exit 2 ;;
@@ -21,8 +22,8 @@ first=${3:-1}
 gen=model/target/release/gen
 runner=model/target/release/runner
 reach=rust/target/release/reach
-styles=$("$gen" 2>&1 | sed -n 's/.*styles: //p')
-[ -n "$styles" ] || { echo 'compare: the generator names no styles'; exit 1; }
+styles=$(sh model/styles.sh "$stage")
+[ -n "$styles" ] || { echo 'compare: the model names no styles'; exit 1; }
 calls=0
 shortened=0
 compared=0
@@ -47,7 +48,7 @@ same() {
         fault "$1" 'reach fails'
     elif [ "$(wc -l <"$work/script")" != "$lines" ]; then
         fault "$1" "$(wc -l <"$work/script") lines, not $lines"
-    elif ! "$runner" <"$work/script" >"$work/model" 2>"$work/faults"; then
+    elif ! "$runner" --stage "$stage" <"$work/script" >"$work/model" 2>"$work/faults"; then
         fault "$1" 'the model fails'
     elif answered "$1" "$work/script" "$work/model"; then
         compared=$((compared + lines))
@@ -63,7 +64,7 @@ for style in $styles; do
     seed=$first
     while [ "$seed" -lt $((first + seeds)) ]; do
         name="$style, seed $seed"
-        if ! "$gen" "$seed" "$lines" "$style" >"$work/made"; then
+        if ! "$gen" "$seed" "$lines" "$style" "$stage" >"$work/made"; then
             fault "$name" 'the generator fails'
         else
             same "$name" "$work/made"

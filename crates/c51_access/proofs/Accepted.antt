@@ -3,7 +3,7 @@
 use mathlib.Core.Path.{_≡_}
 use mathlib.Core.Bool.{true}
 use Prim.Native.Nat.{ℕ, _<_}
-use Rattle.laws.proofs.Choices.{by-test}
+use Rattle.machine.proofs.Choices.{by-test}
 use Rattle.machine.specs.declared.Device.{Device}
 use Rattle.machine.specs.Registers.{lacks}
 use Rattle.machine.specs.Record.{accepted}

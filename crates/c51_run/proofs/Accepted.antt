@@ -5,29 +5,29 @@ use mathlib.Core.Bool.{true}
 use mathlib.Core.List.{List}
 use Prim.Native.Nat.{ℕ}
 use lib.Dec.{eqb, leb}
-use Rattle.laws.proofs.Choices.{by-test}
+use Rattle.machine.proofs.Choices.{by-test}
 use Rattle.machine.specs.declared.Device.{Device}
 use Rattle.machine.specs.Record.{accepted, pinsOk}
 use Rattle.machine.specs.Calls.{cycleAnswer, jumpAnswer, longest, traceAnswer, traceFault}
-use Rattle.cycle.proofs.Keeps.{never9, cycle-accepted}
-use Rattle.jump.proofs.Keeps.{cycles-accepted, none-refused9}
-use Rattle.traces.proofs.Keeps.{trace-accepted, trace-none-refused9}
+use Rattle.cycle.proofs.Keeps.{cycle-accepted}
+use Rattle.jump.proofs.Keeps.{cycles-accepted}
+use Rattle.traces.proofs.Keeps.{trace-accepted}
 
 module _ (d : Device) (a : accepted d ≡ true) where
   pub cycle-kept : (pins : ℕ) → accepted (cycleAnswer d pins .device) ≡ true
   unfolding cycleAnswer
   cycle-kept pins =
-      rw (a, never9 pins d a) (by-test (pinsOk pins) (λ good. rw good (cycle-accepted pins d a)) (λ bad. rw bad a))
+      rw a (by-test (pinsOk pins) (λ good. rw good (cycle-accepted pins d a)) (λ bad. rw bad a))
 
   pub jump-kept : (pins n : ℕ) → accepted (jumpAnswer d pins n .device) ≡ true
   unfolding jumpAnswer
   jump-kept pins n =
-      rw (a, none-refused9 n pins d a)
+      rw a
       (by-test (pinsOk pins) (λ good. rw good (by-test (leb n longest) (λ short. rw short (cycles-accepted n pins d a)) (λ long. rw long a)))
       (λ bad. rw bad a))
 
   pub trace-kept : (es : List ℕ) → accepted (traceAnswer d es .device) ≡ true
   unfolding traceAnswer
   trace-kept es =
-      rw (a, trace-none-refused9 es d a)
+      rw a
       (by-test (eqb (traceFault es) 0) (λ good. rw good (trace-accepted es d a)) (λ bad. rw bad a))

@@ -16,7 +16,6 @@ use machine::RunAnswer;
 use machine::refusals::BAD_PINS;
 use machine::refusals::BAD_RECORD;
 use machine::refusals::PASSED;
-use machine::refusals::ROLLED_TWICE;
 use machine::refusals::TOO_LONG;
 
 // One machine cycle with a pin byte, and the output line as it leaves it.
@@ -29,11 +28,7 @@ pub fn cycle(d: Device, pins: u8) -> CycleAnswer
     if !pins_ok(pins) {
         return refuse_cycle(BAD_PINS, d);
     }
-    let once = cycle::cycle_once(d, cycle::pins_of(d.kind, pins));
-    if once.twice {
-        return refuse_cycle(ROLLED_TWICE, d);
-    }
-    passed_cycle(once.device)
+    passed_cycle(cycle::cycle_once(d, cycle::pins_of(d.kind, pins)))
 }
 
 // A jump of n cycles with one pin byte.
@@ -49,11 +44,7 @@ pub fn jump(d: Device, pins: u8, n: u64) -> RunAnswer
     if n > LONGEST {
         return refuse_run(TOO_LONG, d);
     }
-    let run = jump::advance(d, cycle::pins_of(d.kind, pins), n);
-    if run.twice {
-        return refuse_run(ROLLED_TWICE, d);
-    }
-    passed_run(run.device)
+    passed_run(jump::advance(d, cycle::pins_of(d.kind, pins), n))
 }
 
 // A trace run, each entry a pin byte on top and cycles in the low 24 bits; the entries are judged whole, in an order of their own.
@@ -67,15 +58,10 @@ pub fn trace(d: Device, entries: &[u32]) -> RunAnswer
     if fault != PASSED {
         return refuse_run(fault, d);
     }
-    let ran = traces::run_entries(d, entries);
-    if ran.twice {
-        return refuse_run(ROLLED_TWICE, d);
-    }
-    passed_run(ran.device)
+    passed_run(traces::run_entries(d, entries))
 }
 
-// A look ahead over n cycles with one pin byte, the first in which a flag rises. No cycle of an accepted device meets ROLLED_TWICE,
-// so that it may stop there.
+// A look ahead over n cycles with one pin byte: the first in which a flag rises, or none.
 pub fn look(d: Device, pins: u8, n: u64) -> LookAnswer
     ensures { λ r. ⌜ (r ≡ Machine.lookAnswer d pins n) × (replyOfLook r ≡ play (Call.look pins n) d .reply) ⌝ }
 {

@@ -1,6 +1,6 @@
--- Two laws of the whole cycle: an accepted device never meets refusal 9, and it stays accepted. By the ranges of its parts.
+-- Two laws of the whole cycle: at most six ticks come, and an accepted device stays accepted. By the ranges of its parts.
 use mathlib.Core.Path.{_≡_, sym, _∙_}
-use mathlib.Core.Bool.{true, false, _&&_, and-false}
+use mathlib.Core.Bool.{true, _&&_, and-false}
 use mathlib.Core.List.{List}
 use Prim.Native.Nat.{ℕ, _+_, _≤_}
 use native.Mathlib.Nat.{mod-lt, le-pred-of-lt}
@@ -14,16 +14,14 @@ use Rattle.machine.specs.declared.Device.{Device}
 use Rattle.machine.specs.Bits.{bit, setBit}
 use Rattle.machine.specs.Registers.{RXD, T2, T2EX, IT0, IT1, IE0, IE1}
 use Rattle.machine.specs.Record.{accepted, pinsOf, levelsOf, levelsOk}
-use Rattle.machine.specs.Timers.{timersStep}
-use Rattle.machine.specs.Timer2.{timer2Step}
-use Rattle.machine.specs.Cycle.{falls, externals, counted, timersAfter, timer2After, ticksIn, steps, cycleOf, refused9}
+use Rattle.machine.specs.Cycle.{falls, externals, counted, timersAfter, timer2After, ticksIn, steps, cycleOf}
 use Rattle.laws.specs.Ranges.{TimersOk, Timer2Ok, Absent, TicksOk, Ranges}
 use Rattle.laws.proofs.Bits.{bit-below, bit-set, bit-set-other}
-use Rattle.laws.proofs.Choices.{chosen}
+use Rattle.machine.proofs.Choices.{chosen}
+use Rattle.machine.proofs.Rollovers.{few-ticks}
 use Rattle.timers.proofs.Ranges as timers
 use Rattle.timer2.proofs.Ranges as timer2
-use Rattle.serial.proofs.Ranges.{ticks-ok, step-ok, sends-below}
-use Rattle.serial.proofs.Rollover.{rolls-once}
+use Rattle.serial.proofs.Ranges.{half-within, step-ok, sends-below}
 use Rattle.interrupts.proofs.Ranges.{external-byte, seen-most}
 use Rattle.record.proofs.Accepted.{ranges-of, accepted-of}
 
@@ -44,27 +42,16 @@ unfolding pinsOf
 takes-t2 pins = bit-set-other T2 T2EX (setBit T2 pins) (omega arith) ∙ bit-set T2 pins
 
 module _ (d : Device) (r : Ranges d) where
-  -- at most six ticks come in a cycle
-  pub few-ticks : (l : ℕ) → TicksOk (ticksIn d (counted d l))
-  unfolding ticksIn counted
-  few-ticks l =
-      ticks-ok (d .pcon) (d .timer2 .t2con) (d .serial) (timersStep (d .timers) l .overflow1) (timer2Step (d .timer2) (falls (d .levels) l T2EX) .overflows)
-      (r .serial .half) (timers.step-kept (d .timers) (r .timers) l .one) (timer2.step-kept (d .timer2) _ (r .timer2) .overflows)
-
-  pub few-ticks-of : (l : ℕ) {c : Counted} {k : Ticks} → c ≡ counted d l → k ≡ ticksIn d c → TicksOk k
-  few-ticks-of l e f = rw (f, e) (few-ticks l)
-
-  never-twice : (pins : ℕ) → refused9 pins d ≡ false
-  unfolding refused9
-  never-twice pins =
-      let l = pinsOf (d .kind) pins in
-      rolls-once _ (bit RXD l) (d .serial) (few-ticks l) (r .serial)
+  -- step 4
+  half-keeps : (l : ℕ) → ticksIn d (counted d l) .half ≤ 1
+  unfolding ticksIn
+  half-keeps l = half-within (d .pcon) (d .timer2 .t2con) (d .serial) _ _ (r .serial .half)
 
   -- step 2, then steps 6 and 7
   timers-keep : (l : ℕ) → TimersOk (timersAfter (d .levels) l (counted d l .timers .timers))
   unfolding timersAfter externals counted
   timers-keep l =
-      let k = timers.step-kept (d .timers) (r .timers) l .timers in
+      let k = timers.step-kept (d .timers) (r .timers) l in
       record {
         tcon = external-byte IT1 IE1 _ _ _ (lit< tt) (external-byte IT0 IE0 _ _ _ (lit< tt) (k .tcon));
         tmod = k .tmod;
@@ -79,7 +66,7 @@ module _ (d : Device) (r : Ranges d) where
   timer2-keeps : (l : ℕ) → Timer2Ok (timer2After (d .levels) l (counted d l .timer2 .timer2))
   unfolding timer2After counted
   timer2-keeps l =
-      let k = timer2.step-kept (d .timer2) (falls (d .levels) l T2EX) (r .timer2) .timer2 in
+      let k = timer2.step-kept (d .timer2) (falls (d .levels) l T2EX) (r .timer2) in
       record {
         t2con = k .t2con;
         rcap2l = k .rcap2l;
@@ -117,7 +104,7 @@ module _ (d : Device) (r : Ranges d) where
         timers = timers-keep l;
         timer2 = timer2-keeps l;
         absent = absent-keeps pins;
-        serial = step-ok _ (bit RXD l) (d .serial) (few-ticks l .half) (le-pred-of-lt (bit-below RXD l)) (r .serial);
+        serial = step-ok _ (bit RXD l) (d .serial) (half-keeps l) (le-pred-of-lt (bit-below RXD l)) (r .serial);
         interrupts =
             record {
               ie = r .interrupts .ie;
@@ -133,9 +120,9 @@ module _ (d : Device) (r : Ranges d) where
         cycle = mod-lt (d .cycle + 1) (omega arith);
       }
 
--- an accepted device never meets refusal 9
-pub never9 : (pins : ℕ) (d : Device) → accepted d ≡ true → refused9 pins d ≡ false
-never9 pins d a = never-twice d (ranges-of d a) pins
+-- at most six ticks come in a cycle of an accepted device, by the law of the machine
+pub ticks-ok : (d : Device) → accepted d ≡ true → (l : ℕ) {c : Counted} {k : Ticks} → c ≡ counted d l → k ≡ ticksIn d c → TicksOk k
+ticks-ok d a l e f = rw (f, e) (record { send = few-ticks d a l .send; half = half-keeps d (ranges-of d a) l })
 
 -- a cycle keeps an accepted device accepted
 pub cycle-accepted : (pins : ℕ) (d : Device) → accepted d ≡ true → accepted (cycleOf pins d) ≡ true

@@ -13,7 +13,7 @@ use borrow.Author.Tests.{eqb-true, eqb-false, leb-true}
 use Rattle.machine.specs.Record.{levelsOk}
 use Rattle.machine.specs.Cycle.{falls}
 use Rattle.laws.proofs.Bits.{low1}
-use Rattle.laws.proofs.Choices.{and-left, and-right, by-test}
+use Rattle.machine.proofs.Choices.{and-left, and-right, by-test}
 
 level-below : (ls : List ℕ) (k : ℕ) → levelsOk ls ≡ true → getD ls k 0 ≤ 1
 level-below [] k e = omega arith

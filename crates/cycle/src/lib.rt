@@ -4,10 +4,8 @@ ghost use mathlib.Core.Bool.{true};
 ghost use Prim.Native.Nat.{_<_};
 ghost use Rattle.machine.specs.Record.{accepted, pinsOf, levelsOf, levelsOk};
 ghost use Rattle.machine.specs.Cycle as Rule;
-ghost use Rattle.cycle.specs.Once.{onceOf};
 use machine::Counted;
 use machine::Device;
-use machine::Overflows;
 use machine::Ticks;
 use machine::Timer2;
 use machine::Timers;
@@ -96,18 +94,6 @@ fn counted(d: Device, pins: u8) -> Counted
     }
 }
 
-// The overflows that they hand on.
-fn overflows_of(c: Counted) -> Overflows
-    ensures { λ r. ⌜ r ≡ Rule.overflowsOf c ⌝ }
-{
-    Overflows {
-        timer0: c.timers.overflow0,
-        th0: c.timers.overflow_th0,
-        timer1: c.timers.overflow1,
-        timer2: c.timer2.overflows,
-    }
-}
-
 // Step 4, with the overflows of Timers 1 and 2.
 fn ticks_in(d: Device, c: Counted) -> Ticks
     ensures { λ r. ⌜ r ≡ Rule.ticksIn d c ⌝ }
@@ -121,29 +107,20 @@ fn ticks_in(d: Device, c: Counted) -> Ticks
     )
 }
 
-// A cycle: whether a serial counter rolls over twice in it, which is refusal 9, its overflows, and the device after it.
-pub struct Once {
-    pub twice: bool,
-    pub overflows: Overflows,
-    pub device: Device,
-}
-
 // One cycle, steps 1 to 8, with the pin byte as the kind takes it.
-pub fn cycle_once(d: Device, pins: u8) -> Once
+pub fn cycle_once(d: Device, pins: u8) -> Device
     requires { ⌜ accepted d ≡ true ⌝ }
-    ensures { λ r. ⌜ r ≡ onceOf pins d ⌝ }
+    ensures { λ r. ⌜ r ≡ Rule.steps d pins ⌝ }
 {
     let saved = d.levels;
     let c = counted(d, pins);
     let k = ticks_in(d, c);
-    let twice = serial::rolls_twice(k, d.serial);
     let s = serial::serial_step(k, (pins >> RXD) & 1, d.serial);
     let t = timers_after(saved, pins, c.timers.timers);
     let u = timer2_after(saved, pins, c.timer2.timer2);
     let seen = interrupts::seen_of(t.tcon, s.scon, u.t2con);
     let now = levels_of(pins);
     let number = std::num::wrapping_add_u64(d.cycle, 1);
-    let overflows = overflows_of(c);
     let mut e = d;
     e.interrupts.polled = d.interrupts.seen;
     e.interrupts.seen = seen;
@@ -152,9 +129,5 @@ pub fn cycle_once(d: Device, pins: u8) -> Once
     e.serial = s;
     e.levels = now;
     e.cycle = number;
-    Once {
-        twice: twice,
-        overflows: overflows,
-        device: e,
-    }
+    e
 }

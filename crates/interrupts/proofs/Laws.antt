@@ -7,7 +7,7 @@ use native.Mathlib.Omega.{arith}
 use lib.Dec.{T, eqb, eqb→eq, eqb·suc-zero, lit<}
 use lib.Bits.{bitAnd, bitOr, and-le-l, and-le-r, mask-lt, or-shifted-r}
 use lib.Count.{trailingZeros}
-use Rattle.laws.proofs.Choices.{chosen, cond-ap}
+use Rattle.machine.proofs.Choices.{chosen, cond-ap}
 use Rattle.laws.proofs.Bits.{bit-below, bit-and}
 use Rattle.laws.proofs.Tests.{all, at}
 use Rattle.machine.specs.Bits.{bit}

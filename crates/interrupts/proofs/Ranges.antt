@@ -6,7 +6,7 @@ use native.Mathlib.Nat.{le-trans, sub-le}
 use native.Mathlib.Omega.{arith}
 use lib.Dec.{eqb, lit<, lit≤}
 use Rattle.laws.specs.Ranges.{InterruptsOk}
-use Rattle.laws.proofs.Choices.{chosen}
+use Rattle.machine.proofs.Choices.{chosen}
 use Rattle.laws.proofs.Bits.{set-lt, clear-lt}
 use Rattle.machine.specs.Bits.{bit, setBit}
 use Rattle.machine.specs.Registers.{TF0, TF1, IE0, IE1, IT0, IT1, RI, TI, TF2, EXF2}

@@ -12,7 +12,7 @@ use Rattle.machine.specs.Record.{accepted}
 use Rattle.machine.specs.Cycle.{cycles}
 use Rattle.machine.specs.Calls.{longest}
 use Rattle.record.proofs.Accepted.{ranges-of}
-use Rattle.laws.proofs.Choices.{by-test}
+use Rattle.machine.proofs.Choices.{by-test}
 use Rattle.strides.specs.Busy.{busy}
 use Rattle.strides.specs.Stride.{room}
 use Rattle.strides.proofs.Exact.{no-room, quiet, busy-next}

@@ -2,7 +2,7 @@
 -- by the laws of strides and of a cycle.
 use Prim.Native.Nat.{ℕ, zero, suc, _+_, _-_, _≤_, _<_, min}
 use mathlib.Core.Path.{_≡_, refl, sym, ap, _∙_, subst}
-use mathlib.Core.Bool.{true, false, or-false}
+use mathlib.Core.Bool.{true, false}
 use native.Mathlib.Omega.{arith}
 use borrow.Author.Tests.{eq-eqb, ne-eqb}
 use Rattle.machine.specs.declared.Device.{Device}
@@ -10,20 +10,17 @@ use Rattle.machine.specs.declared.LookAnswer.{LookAnswer}
 use Rattle.machine.specs.declared.LookAnswer.the-variants.{At, Nothing}
 use Rattle.machine.specs.Record.{accepted}
 use Rattle.machine.specs.Flags.{flags, anyRises}
-use Rattle.machine.specs.Cycle.{steps, cycleOf, refused9, cycles, anyRefused9}
+use Rattle.machine.specs.Cycle.{steps, cycleOf, cycles}
 use Rattle.machine.specs.Calls.{firstRise}
 use Rattle.laws.specs.Ranges.{Ranges}
 use Rattle.record.proofs.Accepted.{ranges-of}
-use Rattle.cycle.specs.declared.Once.{Once}
-use Rattle.cycle.specs.Once.{onceOf}
 use Rattle.strides.specs.Stride.{room, roomAt, stride, strideAt, strideTimers, stride2, strideSerial}
 use Rattle.strides.proofs.Strides.{quiet-cycle, stride-law}
 use Rattle.strides.proofs.Runs.{cycles-one, crossed-on}
 use Rattle.strides.proofs.Rises.{quiet-still, rise-quiet, on-here, on-one, on-stride}
 use Rattle.jump.specs.declared.Round.{Round}
-use Rattle.jump.specs.declared.Ran.{Ran}
-use Rattle.jump.specs.Rounds.{Ready, usedIn, Crossed, Advanced}
-use Rattle.jump.proofs.Keeps.{cycles-accepted, cycles-ready, none-refused9}
+use Rattle.jump.specs.Rounds.{Ready, usedIn, Crossed}
+use Rattle.jump.proofs.Keeps.{cycles-ready}
 
 -- the room, the stride and the cycle, with the pin byte as the kind takes it
 module _ (pins : ℕ) (d : Device) (r : Ready pins d) where
@@ -39,15 +36,6 @@ module _ (pins : ℕ) (d : Device) (r : Ready pins d) where
   unfolding cycleOf
   cycle-is = ap (steps d) (sym (r .taken))
 
-  refused-is : onceOf pins d .twice ≡ refused9 pins d
-  unfolding refused9
-  refused-is = ap (λ (l : ℕ). onceOf l d .twice) (sym (r .taken))
-
--- one cycle is refused where the cycle is
-one-refused9 : (pins : ℕ) (d : Device) → anyRefused9 1 pins d ≡ refused9 pins d
-unfolding anyRefused9
-one-refused9 pins d = or-false (refused9 pins d)
-
 module _ (pins left : ℕ) (d : Device) where
   pub used-busy : room pins d ≡ 0 → usedIn pins left d ≡ 1
   unfolding usedIn
@@ -58,23 +46,21 @@ module _ (pins left : ℕ) (d : Device) where
   used-quiet h = simp (ne-eqb (room pins d) 0 (λ e. omega arith))
 
   -- no room: a round is the next cycle
-  pub round-busy : {o : Once} → Ready pins d → o ≡ onceOf pins d → room pins d ≡ 0
-      → Crossed pins left d (record { twice = o .twice; used = 1; device = o .device })
+  pub round-busy : {u : Device} → Ready pins d → u ≡ steps d pins → room pins d ≡ 0
+      → Crossed pins left d (record { used = 1; device = u })
   round-busy r e z =
       record {
         used = sym (used-busy z);
-        reaches = ap (λ (o : Once). o .device) e ∙ (cycle-is pins d r ∙ sym (cycles-one pins d));
-        refused = ap (λ (o : Once). o .twice) e ∙ (refused-is pins d r ∙ sym (one-refused9 pins d));
+        reaches = e ∙ (cycle-is pins d r ∙ sym (cycles-one pins d));
       }
 
   -- room: a round is a stride
   pub round-quiet : {m : ℕ} {u : Device} → accepted d ≡ true → 1 ≤ room pins d → m ≡ min (room pins d) left → u ≡ stride m pins d
-      → Crossed pins left d (record { twice = false; used = m; device = u })
+      → Crossed pins left d (record { used = m; device = u })
   round-quiet {m} a h e f =
       record {
         used = e ∙ sym (used-quiet h);
         reaches = f ∙ sym (stride-law m pins d (ranges-of d a) (omega arith));
-        refused = sym (none-refused9 m pins d a);
       }
 
 -- a quiet run to the end: the stride ends where the cycles that are left do, and a look ahead over them finds nothing
@@ -98,27 +84,13 @@ module _ (pins left : ℕ) (d : Device) {r : Round} (c : Crossed pins left d r) 
       go zero e = omega (arith, c .used, used-busy pins left d e)
       go (suc k) e = omega (arith, c .used, used-quiet pins left d (omega arith))
 
-  -- it leaves the device ready, and is not refused
+  -- it leaves the device ready
   pub round-ready : Ready pins d → Ready pins (r .device)
   round-ready y = subst (Ready pins) (sym (c .reaches)) (cycles-ready (r .used) pins d y)
-
-  pub round-passes : accepted d ≡ true → r .twice ≡ false
-  round-passes a = c .refused ∙ none-refused9 (r .used) pins d a
 
   -- the cycles that it leaves end where all of them end
   pub round-on : {v : Device} → cycles left pins d ≡ v → cycles (left - r .used) pins (r .device) ≡ v
   round-on i = crossed-on pins d (round-used .1) (c .reaches) i
-
--- a run of cycles from an accepted device: it passes, reaches where the cycles end, and leaves the device accepted
-module _ (n pins : ℕ) (d : Device) {r : Ran} (c : Advanced n pins d r) (a : accepted d ≡ true) where
-  pub run-passes : r .twice ≡ false
-  run-passes = c .refused ∙ none-refused9 n pins d a
-
-  pub run-reaches : r .device ≡ cycles n pins d
-  run-reaches = c .reaches run-passes
-
-  pub run-accepted : accepted (r .device) ≡ true
-  run-accepted = ap accepted run-reaches ∙ cycles-accepted n pins d a
 
 -- no flag rises over a quiet run
 quiet-rises : (m pins : ℕ) (d : Device) → Ranges d → 1 ≤ room pins d → m ≤ room pins d

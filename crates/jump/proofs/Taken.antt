@@ -1,23 +1,21 @@
--- The pin byte as the kind takes it stands for the one that is given: taking it again changes nothing, and cycles,
--- refusals and rises are the same with it; by induction on the cycles.
+-- The pin byte as the kind takes it stands for the one that is given: taking it again changes nothing, and cycles and
+-- rises are the same with it; by induction on the cycles.
 use Prim.Native.Nat.{ℕ, zero, suc}
 use mathlib.Core.Path.{_≡_, refl, sym, ap, _∙_}
-use mathlib.Core.Bool.{Bool, true, false, cond, _||_}
+use mathlib.Core.Bool.{Bool, true, false, cond}
 use native.Mathlib.Omega.{arith}
 use lib.Dec.{eqb}
 use Rattle.machine.specs.declared.Device.{Device}
 use Rattle.machine.specs.declared.LookAnswer.{LookAnswer}
 use Rattle.machine.specs.declared.LookAnswer.the-variants.{At}
-use Rattle.machine.specs.Bits.{bit, setBit}
-use Rattle.machine.specs.Registers.{RXD, T2, T2EX}
+use Rattle.machine.specs.Bits.{setBit}
+use Rattle.machine.specs.Registers.{T2, T2EX}
 use Rattle.machine.specs.Record.{accepted, pinsOf}
-use Rattle.machine.specs.Serial.{rollsTwice}
 use Rattle.machine.specs.Flags.{flags, anyRises}
-use Rattle.machine.specs.Cycle.{counted, ticksIn, steps, cycleOf, refused9, cycles, anyRefused9}
+use Rattle.machine.specs.Cycle.{steps, cycleOf, cycles}
 use Rattle.machine.specs.Calls.{rises, firstRise}
 use Rattle.laws.proofs.Bits.{bit-set, bit-set-other, set-same}
-use Rattle.jump.specs.declared.Ran.{Ran}
-use Rattle.jump.specs.Rounds.{Ready, Advanced}
+use Rattle.jump.specs.Rounds.{Ready}
 
 pub pins-twice : (kind pins : ℕ) → pinsOf kind (pinsOf kind pins) ≡ pinsOf kind pins
 unfolding pinsOf
@@ -41,22 +39,11 @@ module _ (pins : ℕ) (d : Device) where
   unfolding cycleOf
   cycle-taken = ap (steps d) (pins-twice (d .kind) pins)
 
-  pub refused9-taken : refused9 (pinsOf (d .kind) pins) d ≡ refused9 pins d
-  unfolding refused9
-  refused9-taken = ap (λ (l : ℕ). rollsTwice (ticksIn d (counted d l)) (bit RXD l) (d .serial)) (pins-twice (d .kind) pins)
-
 pub cycles-taken : (n pins : ℕ) (d : Device) → cycles n (pinsOf (d .kind) pins) d ≡ cycles n pins d
 unfolding cycles cycleOf steps
 cycles-taken zero pins d = refl
 cycles-taken (suc n) pins d =
     ap (cycles n (pinsOf (d .kind) pins)) (cycle-taken pins d) ∙ cycles-taken n pins (cycleOf pins d)
-
-pub anyRefused9-taken : (n pins : ℕ) (d : Device) → anyRefused9 n (pinsOf (d .kind) pins) d ≡ anyRefused9 n pins d
-unfolding anyRefused9 cycleOf steps
-anyRefused9-taken zero pins d = refl
-anyRefused9-taken (suc n) pins d =
-    (λ i. refused9-taken pins d i || anyRefused9 n (pinsOf (d .kind) pins) (cycle-taken pins d i))
-    ∙ ap (λ (b : Bool). refused9 pins d || b) (anyRefused9-taken n pins (cycleOf pins d))
 
 pub firstRise-taken : (k n pins : ℕ) (d : Device) → firstRise k n (pinsOf (d .kind) pins) d ≡ firstRise k n pins d
 unfolding firstRise cycleOf steps
@@ -70,12 +57,8 @@ module _ (pins : ℕ) (d : Device) {l : ℕ} (e : l ≡ pinsOf (d .kind) pins) w
   pub ready-taken : accepted d ≡ true → Ready l d
   ready-taken a = record { good = a; taken = ap (pinsOf (d .kind)) e ∙ (pins-twice (d .kind) pins ∙ sym e) }
 
-  pub advanced-taken : {n : ℕ} {r : Ran} → Advanced n l d r → Advanced n pins d r
-  advanced-taken {n} c =
-      record {
-        refused = c .refused ∙ (ap (λ (p : ℕ). anyRefused9 n p d) e ∙ anyRefused9-taken n pins d);
-        reaches = λ t. c .reaches t ∙ (ap (λ (p : ℕ). cycles n p d) e ∙ cycles-taken n pins d);
-      }
+  pub run-taken : (n : ℕ) {u : Device} → u ≡ cycles n l d → u ≡ cycles n pins d
+  run-taken n c = c ∙ (ap (λ (p : ℕ). cycles n p d) e ∙ cycles-taken n pins d)
 
   pub look-taken : (k n : ℕ) {v : LookAnswer} → v ≡ firstRise k n l d → v ≡ firstRise k n pins d
   look-taken k n q = q ∙ (ap (λ (p : ℕ). firstRise k n p d) e ∙ firstRise-taken k n pins d)

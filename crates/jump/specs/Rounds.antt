@@ -1,15 +1,14 @@
--- What a round of a jump passes, and what the rounds of a jump come to.
+-- What a round of a jump passes.
 use Prim.Native.Nat.{ℕ, _<_, _≤_}
 use mathlib.Core.Path.{_≡_}
 use mathlib.Core.Bool.{true, false}
 use mathlib.Core.Logic.{_⊎_}
 use Rattle.machine.specs.declared.Device.{Device}
 use Rattle.machine.specs.Record.{accepted, pinsOf}
-use Rattle.machine.specs.Cycle.{cycles, anyRefused9}
+use Rattle.machine.specs.Cycle.{cycles}
 use Rattle.strides.specs.Busy.{busy}
 use Rattle.strides.specs.Stride.{room, usedOf}
 use Rattle.jump.specs.declared.Round.{Round}
-use Rattle.jump.specs.declared.Ran.{Ran}
 
 -- what cycles are made of: a record that is accepted, and a pin byte as its kind takes it
 pub record Ready (pins : ℕ) (d : Device) : Type 0 where
@@ -20,16 +19,10 @@ pub record Ready (pins : ℕ) (d : Device) : Type 0 where
 unfoldable pub usedIn : ℕ → ℕ → Device → ℕ
 usedIn pins left d = usedOf (room pins d) left
 
--- a round has just these cycles, ends where they end, and says whether one of them is refused
+-- a round has just these cycles, and ends where they end
 pub record Crossed (pins left : ℕ) (d : Device) (r : Round) : Type 0 where
   pub used : r .used ≡ usedIn pins left d
   pub reaches : r .device ≡ cycles (r .used) pins d
-  pub refused : r .twice ≡ anyRefused9 (r .used) pins d
-
--- a jump of n cycles: whether one of them is refused, and the device after them if none is
-pub record Advanced (n pins : ℕ) (d : Device) (r : Ran) : Type 0 where
-  pub refused : r .twice ≡ anyRefused9 n pins d
-  pub reaches : r .twice ≡ false → r .device ≡ cycles n pins d
 
 -- Rounds as request Nine counts them: so many of the cycles that are left are one busy cycle, or a longest run of others
 

@@ -1,12 +1,12 @@
 // Jumps by rounds: a round is one busy cycle, or one stride over the quiet run ahead. Jump, trace run and look ahead go by
 // the same rounds. `pins` is the pin byte as the kind takes it.
 ghost use mathlib.Core.Path.{_≡_};
-ghost use mathlib.Core.Bool.{true, false};
 ghost use Prim.Native.Nat.{_≤_};
 ghost use Rattle.machine.specs.Flags.{flags, anyRises};
+ghost use Rattle.machine.specs.Cycle.{cycles};
 ghost use Rattle.machine.specs.Calls.{longest, firstRise};
 ghost use Rattle.strides.specs.Stride.{roomAt};
-ghost use Rattle.jump.specs.Rounds.{Ready, Crossed, Advanced};
+ghost use Rattle.jump.specs.Rounds.{Ready, Crossed};
 use laws::least;
 use machine::Device;
 use machine::LookAnswer;
@@ -14,9 +14,8 @@ use machine::places::SCON_FLAGS;
 use machine::places::T2CON_FLAGS;
 use machine::places::TCON_FLAGS;
 
-// What a round passes: whether a cycle of it is refused by 9, how many cycles it has, and the device after them.
+// What a round passes: how many cycles it has, and the device after them.
 pub struct Round {
-    pub twice: bool,
     pub used: u64,
     pub device: Device,
 }
@@ -28,65 +27,40 @@ fn one_round(d: Device, pins: u8, left: u64, room: u64) -> Round
     ensures { λ r. ⌜ Crossed pins left d r ⌝ }
 {
     if room == 0 {
-        let once = cycle::cycle_once(d, pins);
-        let e = once.device;
         Round {
-            twice: once.twice,
             used: 1,
-            device: e,
+            device: cycle::cycle_once(d, pins),
         }
     } else {
         let used = least(room, left);
         Round {
-            twice: false,
             used: used,
             device: quiet_stride::stride(d, pins, used),
         }
     }
 }
 
-// Whether one of a run of cycles is refused by 9, and the device after them if none is.
-pub struct Ran {
-    pub twice: bool,
-    pub device: Device,
-}
-
 // n cycles with one pin byte, round by round. Where Timer 1's reload is all that happens from here on, the rounds go by its
 // few fields alone; a quiet run to the end is the last round.
-pub fn advance(d: Device, pins: u8, n: u64) -> Ran
+pub fn advance(d: Device, pins: u8, n: u64) -> Device
     requires { ⌜ Ready pins d × (n ≤ longest) ⌝ }
-    ensures { λ r. ⌜ Advanced n pins d r ⌝ }
+    ensures { λ r. ⌜ r ≡ cycles n pins d ⌝ }
 {
     let mut at = d;
     let mut left = n;
     while 0 < left {
         let ahead = quiet::ahead(at, pins);
         if reload::idles(at, pins, ahead.settled) {
-            return Ran {
-                twice: false,
-                device: reload::idle(at, pins, left),
-            };
+            return reload::idle(at, pins, left);
         }
         if left <= ahead.room {
-            return Ran {
-                twice: false,
-                device: quiet_stride::stride(at, pins, left),
-            };
+            return quiet_stride::stride(at, pins, left);
         }
         let r = one_round(at, pins, left, ahead.room);
-        if r.twice {
-            return Ran {
-                twice: true,
-                device: d,
-            };
-        }
         at = r.device;
         left -= r.used;
     }
-    Ran {
-        twice: false,
-        device: at,
-    }
+    at
 }
 
 // A flag that is 0 before and 1 after: TF1, TF0, IE1, IE0 in TCON, TI, RI in SCON, TF2, EXF2 in T2CON.

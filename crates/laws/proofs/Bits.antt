@@ -12,10 +12,10 @@ use borrow.Author.Tests.{ltb-true, ltb-false}
 use lib.Pow as P
 use lib.Pow.{pow-lt, pow-pos, pow-add, split, high, low, mod-mod-pow, shl-exact, shr-lt, shr-mod, shr-shr, ones-lt, suc-ones}
 use lib.Arith.{bin-ind, digits-mod}
-use lib.Bits.{bitAnd, bitOr, and-mask, and-high, and-step, and-shr, and-block, and-self, and-zero-r, and-le-r, or-add-and, or-shifted, or-zero-r}
+use lib.Bits.{bitAnd, bitOr, and-mask, and-high, and-step, and-shr, and-block, and-self, and-zero-r, or-add-and, or-shifted, or-zero-r}
 use Rattle.machine.specs.Bits.{bit, setBit, clearBit, putBit, field}
 use Rattle.machine.specs.Timers.{flagged}
-use Rattle.laws.proofs.Choices.{chosen}
+use Rattle.machine.proofs.Choices.{chosen}
 
 -- a bit is 0 or 1
 pub bit-below : (k x : ℕ) → bit k x < 2
@@ -300,6 +300,3 @@ and-twice x m = and-assoc x m m ∙ ap (bitAnd x) (and-self m)
 -- a number of w bits is within w ones, and only such a number
 pub lt-within : (w x : ℕ) → x < 2 ^ w → bitAnd x (2 ^ w - 1) ≡ x
 lt-within w x h = and-mask x w ∙ mod-eq-of-lt h
-
-pub within-le : (x m : ℕ) → bitAnd x m ≡ x → x ≤ m
-within-le x m e = subst (λ (n : ℕ). n ≤ m) e (and-le-r x m)

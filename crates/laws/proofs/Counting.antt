@@ -3,8 +3,8 @@
 use mathlib.Core.Path.{_≡_, refl, sym, ap, ap₂, _∙_}
 use mathlib.Core.Bool.{cond}
 use mathlib.Core.Logic.{⊎-elim}
-use Prim.Native.Nat.{ℕ, zero, suc, _+_, _-_, _*_, _/_, _%_, _^_, _<_, _≤_, zero-le}
-use native.Mathlib.Nat.{add-zero, zero-add, add-comm, add-assoc, mod-lt, mod-eq-of-lt, mod-self, mod-add-mod, mod-eq-sub-mod, div-eq-of-lt, div-self, div-eq-sub-div, eq-or-lt-of-le, div-add-mod', div-lt-iff-lt-mul, mul-add-div-right}
+use Prim.Native.Nat.{ℕ, zero, suc, _+_, _-_, _*_, _/_, _%_, _^_, _<_, _≤_}
+use native.Mathlib.Nat.{add-zero, zero-add, add-comm, add-assoc, mod-eq-of-lt, mod-self, mod-add-mod, mod-eq-sub-mod, div-eq-of-lt, div-self, div-eq-sub-div, eq-or-lt-of-le, div-add-mod', mul-add-div-right}
 use native.Mathlib.Omega.{arith}
 use lib.Dec.{eqb, ltb}
 use lib.Pow.{pow-pos, mod-mod-pow, field}
@@ -12,7 +12,8 @@ use borrow.Author.Tests.{ltb-true, ltb-false, ne-eqb}
 use Rattle.machine.specs.declared.Count.{Count}
 use Rattle.machine.specs.Counting.{next, overflow, nextOr}
 use Rattle.machine.specs.Timer2.{countOnce, countTimes}
-use Rattle.laws.proofs.Choices.{chosen, cond-has, by-test}
+use Rattle.machine.proofs.Choices.{cond-has, by-test}
+use Rattle.machine.proofs.Counting.{next-lt, nextOr-lt}
 use Rattle.laws.specs.Counting.{counts, overflows, countsOr, overflowsOr, lapFrom, countAfter, overflowsAfter}
 
 -- ---- one count
@@ -43,23 +44,12 @@ carry w n h = to-zero (2 ^ w) (n + 1) (omega arith) (omega arith)
 pub count-eq : {a b : Count} → a .tl ≡ b .tl → a .th ≡ b .th → a .overflow ≡ b .overflow → a ≡ b
 count-eq p q r = λ i. record { tl = p i; th = q i; overflow = r i }
 
--- the count stays one of w bits
-pub next-lt : (w n : ℕ) → next w n < 2 ^ w
-next-lt w n = mod-lt (n + 1) (pow-pos w)
-
--- there is one overflow or none
-pub overflow-le : (w n : ℕ) → n < 2 ^ w → overflow w n ≤ 1
-overflow-le w n h = let l : overflow w n < 2 = div-lt-iff-lt-mul (pow-pos w) .1 (omega (arith, pow-pos w)) in omega arith
-
 -- with a reload
 pub nextOr-up : (w reload n : ℕ) → n + 1 < 2 ^ w → nextOr w reload n ≡ n + 1
 nextOr-up w reload n h = simp (overflow-up w n h) (next-up w n h)
 
 pub nextOr-over : (w reload n : ℕ) → n + 1 ≡ 2 ^ w → nextOr w reload n ≡ reload
 nextOr-over w reload n e = simp (overflow-over w n e)
-
-pub nextOr-lt : (w reload n : ℕ) → reload < 2 ^ w → nextOr w reload n < 2 ^ w
-nextOr-lt w reload n r = chosen (λ (c : ℕ). c < 2 ^ w) (eqb (overflow w n) 1) reload (next w n) r (next-lt w n)
 
 -- a number of j + k bits parted at bit k, as a timer's is over TH and TL: what a sum that is not cut leaves in either
 pub next-low : (j k n : ℕ) → next (j + k) n % 2 ^ k ≡ (n + 1) % 2 ^ k
@@ -119,17 +109,11 @@ lap (suc m) w reload n h p =
           ∙ ap (λ (k : ℕ). 1 + overflowsOr k w reload reload) left;
     })
 
--- the count stays one of w bits, and no count overflows twice
+-- the count stays one of w bits
 pub countsOr-lt : (m w reload n : ℕ) → reload < 2 ^ w → n < 2 ^ w → countsOr m w reload n < 2 ^ w
 unfolding countsOr
 countsOr-lt zero w reload n r h = h
 countsOr-lt (suc m) w reload n r h = countsOr-lt m w reload (nextOr w reload n) r (nextOr-lt w reload n r)
-
-pub overflowsOr-le : (m w reload n : ℕ) → reload < 2 ^ w → n < 2 ^ w → overflowsOr m w reload n ≤ m
-unfolding overflowsOr
-overflowsOr-le zero w reload n r h = zero-le
-overflowsOr-le (suc m) w reload n r h =
-    omega (arith, overflow-le w n h, overflowsOr-le m w reload (nextOr w reload n) r (nextOr-lt w reload n r))
 
 -- ---- several counts of Timer 2 are counts of 16 bits with a reload
 pub countTimes-are : (m reload c o : ℕ)

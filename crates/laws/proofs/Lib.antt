@@ -1,4 +1,3 @@
-pub mod Choices
 pub mod Tests
 pub mod Bits
 pub mod Counting

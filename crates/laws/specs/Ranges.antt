@@ -1,6 +1,6 @@
 -- Document 01, "The device record": the ranges of an accepted record, field by field and laid out as the record is.
--- Of r : Ranges d the range of d .timers .tcon is r .timers .tcon. This is the one place that states them; every law
--- about a device within its ranges takes one of these records.
+-- Of r : Ranges d the range of d .timers .tcon is r .timers .tcon. This is the one place that states them; every law of a crate
+-- above `machine` about a device within its ranges takes one of these records.
 use Prim.Native.Nat.{ℕ, _<_, _≤_, _^_}
 use mathlib.Core.Path.{_≡_}
 use mathlib.Core.Bool.{true}
@@ -15,6 +15,7 @@ use Rattle.machine.specs.declared.Interrupts.{Interrupts}
 use Rattle.machine.specs.declared.Device.{Device}
 use Rattle.machine.specs.Registers.{PCON, IE, IP, implemented, within}
 use Rattle.machine.specs.Record.{lastPosition, levelsOk}
+use Rattle.machine.specs.Rollovers.{mostTicks}
 
 -- Timers 0 and 1
 pub record TimersOk (t : Timers) : Type 0 where
@@ -67,10 +68,9 @@ pub record SerialOk (s : Serial) : Type 0 where
   pub half : s .half ≤ 1
   pub received : s .received < 256
 
--- at most 6 ticks come in a cycle
+-- step 4: the ticks of the sender, and half; the receiver's ticks may be any number
 pub record TicksOk (k : Ticks) : Type 0 where
-  pub send : k .send ≤ 6
-  pub receive : k .receive ≤ 6
+  pub send : k .send ≤ mostTicks
   pub half : k .half ≤ 1
 
 -- the interrupt controller; IE and IP have no bit outside those that the kind implements

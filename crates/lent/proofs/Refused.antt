@@ -3,7 +3,7 @@ use mathlib.Core.Path.{_≡_, refl}
 use mathlib.Core.List.{List}
 use Prim.Native.Nat.{ℕ}
 use lib.Dec.{eqb, leb}
-use Rattle.laws.proofs.Choices.{chosen}
+use Rattle.machine.proofs.Choices.{chosen}
 use Rattle.machine.specs.declared.Device.{Device}
 use Rattle.machine.specs.declared.Answer.{Answer}
 use Rattle.machine.specs.declared.RunAnswer.{RunAnswer}
@@ -12,8 +12,7 @@ use Rattle.machine.specs.declared.TakeAnswer.{TakeAnswer}
 use Rattle.machine.specs.Registers.{lacks}
 use Rattle.machine.specs.Record.{accepted, pinsOk}
 use Rattle.machine.specs.Interrupts.{Source, none, source, offered, noneInService}
-use Rattle.machine.specs.Cycle.{refused9, anyRefused9}
-use Rattle.machine.specs.Calls.{writeAnswer, cycleAnswer, jumpAnswer, traceAnswer, traceFault, traceRefused9, takeAnswer, takeOf, returnAnswer, longest}
+use Rattle.machine.specs.Calls.{writeAnswer, cycleAnswer, jumpAnswer, traceAnswer, traceFault, takeAnswer, takeOf, returnAnswer, longest}
 
 module _ (d : Device) where
   -- refused, or all is well
@@ -38,7 +37,7 @@ module _ (d : Device) where
   unfolding cycleAnswer
   cycle-refused pins =
       chosen SameCycle (accepted d) _ _
-      (chosen SameCycle (pinsOk pins) _ _ (chosen SameCycle (refused9 pins d) _ _ (λ _. (refl, refl)) (λ n. absurd (n refl))) (λ _. (refl, refl)))
+      (chosen SameCycle (pinsOk pins) _ _ (λ n. absurd (n refl)) (λ _. (refl, refl)))
       (λ _. (refl, refl))
 
   pub jump-refused : (pins n : ℕ) → SameRun (jumpAnswer d pins n)
@@ -46,7 +45,7 @@ module _ (d : Device) where
   jump-refused pins n =
       chosen SameRun (accepted d) _ _
       (chosen SameRun (pinsOk pins) _ _
-      (chosen SameRun (leb n longest) _ _ (chosen SameRun (anyRefused9 n pins d) _ _ (λ _. refl) (λ n. absurd (n refl))) (λ _. refl))
+      (chosen SameRun (leb n longest) _ _ (λ n. absurd (n refl)) (λ _. refl))
       (λ _. refl))
       (λ _. refl)
 
@@ -54,7 +53,7 @@ module _ (d : Device) where
   unfolding traceAnswer
   trace-refused es =
       chosen SameRun (accepted d) _ _
-      (chosen SameRun (eqb (traceFault es) 0) _ _ (chosen SameRun (traceRefused9 es d) _ _ (λ _. refl) (λ n. absurd (n refl))) (λ _. refl))
+      (chosen SameRun (eqb (traceFault es) 0) _ _ (λ n. absurd (n refl)) (λ _. refl))
       (λ _. refl)
 
   taken : (s : Source) → SameTake (takeOf d s)

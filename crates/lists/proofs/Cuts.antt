@@ -9,8 +9,8 @@ use lib.Dec.{eqb, leb}
 use borrow.Author.Tests.{eqb-false}
 use Rattle.machine.specs.declared.Device.{Device}
 use Rattle.machine.specs.Record.{accepted, pinsOk}
-use Rattle.machine.specs.Cycle.{cycleOf, refused9, cycles, anyRefused9}
-use Rattle.machine.specs.Calls.{refuseRun, passedRun, refuseCycle, passedCycle, cycleAnswer, jumpAnswer, longest, entryPins, entryCycles, traceFault, traceRefused9, traceCycles, traceAnswer}
+use Rattle.machine.specs.Cycle.{cycleOf, cycles}
+use Rattle.machine.specs.Calls.{refuseRun, passedRun, refuseCycle, passedCycle, cycleAnswer, jumpAnswer, longest, entryPins, entryCycles, traceFault, traceCycles, traceAnswer}
 use Rattle.machine.specs.Lists.{Call, Reply, play}
 use Rattle.lists.specs.Spelling.{Each}
 use Rattle.lists.specs.Demand3.{Chained}
@@ -37,40 +37,37 @@ over-entries (e ∷ es) d =
     ∙ over-entries es (cycles (entryCycles e) (entryPins e) d))
 
 -- an answer that passes is not one of the refusals
-cycle-passed : (a b c : Bool) (d e : Device)
-    → cond a (cond b (cond c (refuseCycle 9 d) (passedCycle e)) (refuseCycle 4 d)) (refuseCycle 1 d) .code ≡ 0
-    → cond a (cond b (cond c (refuseCycle 9 d) (passedCycle e)) (refuseCycle 4 d)) (refuseCycle 1 d) .device ≡ e
-cycle-passed true true false d e h = refl
-cycle-passed true true true d e h = absurd (omega arith)
-cycle-passed true false c d e h = absurd (omega arith)
-cycle-passed false b c d e h = absurd (omega arith)
+cycle-passed : (a b : Bool) (d e : Device)
+    → cond a (cond b (passedCycle e) (refuseCycle 4 d)) (refuseCycle 1 d) .code ≡ 0
+    → cond a (cond b (passedCycle e) (refuseCycle 4 d)) (refuseCycle 1 d) .device ≡ e
+cycle-passed true true d e h = refl
+cycle-passed true false d e h = absurd (omega arith)
+cycle-passed false b d e h = absurd (omega arith)
 
-jump-passed : (a b c g : Bool) (d e : Device)
-    → cond a (cond b (cond c (cond g (refuseRun 9 d) (passedRun e)) (refuseRun 5 d)) (refuseRun 4 d)) (refuseRun 1 d) .code ≡ 0
-    → cond a (cond b (cond c (cond g (refuseRun 9 d) (passedRun e)) (refuseRun 5 d)) (refuseRun 4 d)) (refuseRun 1 d) .device ≡ e
-jump-passed true true true false d e h = refl
-jump-passed true true true true d e h = absurd (omega arith)
-jump-passed true true false g d e h = absurd (omega arith)
-jump-passed true false c g d e h = absurd (omega arith)
-jump-passed false b c g d e h = absurd (omega arith)
+jump-passed : (a b c : Bool) (d e : Device)
+    → cond a (cond b (cond c (passedRun e) (refuseRun 5 d)) (refuseRun 4 d)) (refuseRun 1 d) .code ≡ 0
+    → cond a (cond b (cond c (passedRun e) (refuseRun 5 d)) (refuseRun 4 d)) (refuseRun 1 d) .device ≡ e
+jump-passed true true true d e h = refl
+jump-passed true true false d e h = absurd (omega arith)
+jump-passed true false c d e h = absurd (omega arith)
+jump-passed false b c d e h = absurd (omega arith)
 
-trace-passed : (a b g : Bool) (fault : ℕ) (d e : Device) → eqb fault 0 ≡ b
-    → cond a (cond b (cond g (refuseRun 9 d) (passedRun e)) (refuseRun fault d)) (refuseRun 1 d) .code ≡ 0
-    → cond a (cond b (cond g (refuseRun 9 d) (passedRun e)) (refuseRun fault d)) (refuseRun 1 d) .device ≡ e
-trace-passed true true false fault d e q h = refl
-trace-passed true true true fault d e q h = absurd (omega arith)
-trace-passed true false g fault d e q h = absurd (eqb-false fault 0 q h)
-trace-passed false b g fault d e q h = absurd (omega arith)
+trace-passed : (a b : Bool) (fault : ℕ) (d e : Device) → eqb fault 0 ≡ b
+    → cond a (cond b (passedRun e) (refuseRun fault d)) (refuseRun 1 d) .code ≡ 0
+    → cond a (cond b (passedRun e) (refuseRun fault d)) (refuseRun 1 d) .device ≡ e
+trace-passed true true fault d e q h = refl
+trace-passed true false fault d e q h = absurd (eqb-false fault 0 q h)
+trace-passed false b fault d e q h = absurd (omega arith)
 
 -- a call that passes leaves the device after its cycles
 call-over : {c : Call} (x : Crosses c) (d : Device) → play c d .reply .code ≡ 0 → play c d .device ≡ over (pinsOfCall c) d
 unfolding play over pinsOfCall cycleAnswer jumpAnswer traceAnswer
 call-over (Crosses.cycle {pins = pins}) d h =
-    cycle-passed (accepted d) (pinsOk pins) (refused9 pins d) d (cycleOf pins d) h
+    cycle-passed (accepted d) (pinsOk pins) d (cycleOf pins d) h
 call-over (Crosses.jump {pins = pins} {n = n}) d h =
-    jump-passed (accepted d) (pinsOk pins) (leb n longest) (anyRefused9 n pins d) d (cycles n pins d) h ∙ sym (over-held n pins d)
+    jump-passed (accepted d) (pinsOk pins) (leb n longest) d (cycles n pins d) h ∙ sym (over-held n pins d)
 call-over (Crosses.trace {es = es}) d h =
-    trace-passed (accepted d) (eqb (traceFault es) 0) (traceRefused9 es d) (traceFault es) d (traceCycles es d) refl h
+    trace-passed (accepted d) (eqb (traceFault es) 0) (traceFault es) d (traceCycles es d) refl h
     ∙ sym (over-entries es d)
 
 -- and so does a list of them

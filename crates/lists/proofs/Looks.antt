@@ -10,7 +10,7 @@ use Rattle.machine.specs.declared.Device.{Device}
 use Rattle.machine.specs.declared.LookAnswer.{LookAnswer}
 use Rattle.machine.specs.declared.LookAnswer.the-variants as Look
 use Rattle.machine.specs.Record.{accepted, pinsOk}
-use Rattle.machine.specs.Cycle.{cycleOf, cycles, anyRefused9}
+use Rattle.machine.specs.Cycle.{cycleOf, cycles}
 use Rattle.machine.specs.Calls.{rises, firstRise, lookAnswer, longest}
 use Rattle.machine.specs.Lists.{Reply, number, replyOfLook}
 use Rattle.machine.specs.Lists.Value.{none}
@@ -47,9 +47,8 @@ found k zero pins d = nowhere (λ i h. absurd (omega arith))
 found k (suc n) pins d = found-step k n pins d (rises pins d) refl (found (suc k) n pins (cycleOf pins d))
 
 -- a look's refusals in their order
-abbrev judged : Bool → Bool → Bool → Bool → LookAnswer → LookAnswer
-judged b₁ b₂ b₃ b₄ a =
-    cond b₁ (cond b₂ (cond b₃ (cond b₄ (Look.Refused 9) a) (Look.Refused 5)) (Look.Refused 4)) (Look.Refused 1)
+abbrev judged : Bool → Bool → Bool → LookAnswer → LookAnswer
+judged b₁ b₂ b₃ a = cond b₁ (cond b₂ (cond b₃ a (Look.Refused 5)) (Look.Refused 4)) (Look.Refused 1)
 
 not-above : (x y : ℕ) → (y < x → ⊥) → x ≤ y
 not-above x y h = go (ltb y x) refl
@@ -100,12 +99,11 @@ module _ (pins n : ℕ) (d : Device) where
       never k g h = f (k - 1) (omega arith)
 
   -- a look that passes answers the first rise
-  passes : (b₁ b₂ b₃ b₄ : Bool) (a : LookAnswer) → replyOfLook (judged b₁ b₂ b₃ b₄ a) .code ≡ 0 → judged b₁ b₂ b₃ b₄ a ≡ a
-  passes true true true true a e = absurd (omega arith)
-  passes true true true false a e = refl
-  passes true true false b₄ a e = absurd (omega arith)
-  passes true false b₃ b₄ a e = absurd (omega arith)
-  passes false b₂ b₃ b₄ a e = absurd (omega arith)
+  passes : (b₁ b₂ b₃ : Bool) (a : LookAnswer) → replyOfLook (judged b₁ b₂ b₃ a) .code ≡ 0 → judged b₁ b₂ b₃ a ≡ a
+  passes true true true a e = refl
+  passes true true false a e = absurd (omega arith)
+  passes true false b₃ a e = absurd (omega arith)
+  passes false b₂ b₃ a e = absurd (omega arith)
 
   -- the same of what its reply says
   at-tells : (m : ℕ) → Looks pins n d (Look.At m) → Tells pins n d (number m)
@@ -135,7 +133,7 @@ module _ (pins n : ℕ) (d : Device) where
   unfolding lookAnswer
   first-is a e p =
       let code = ap (λ (x : LookAnswer). replyOfLook x .code) (sym e) ∙ p in
-      e ∙ passes (accepted d) (pinsOk pins) (leb n longest) (anyRefused9 n pins d) (firstRise 0 n pins d) code
+      e ∙ passes (accepted d) (pinsOk pins) (leb n longest) (firstRise 0 n pins d) code
 
   pub look-means : (a : LookAnswer) → a ≡ lookAnswer d pins n → replyOfLook a .code ≡ 0 → Looks pins n d a
   look-means a e p = rw (first-is a e p) (found-means (found 0 n pins d))

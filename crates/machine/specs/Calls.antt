@@ -2,7 +2,7 @@
 -- Refusals are judged in the table's order, but for a trace, which has its own; a refused call leaves the device as given, but for a
 -- refused reset, which leaves the record of zeros.
 use Prim.Native.Nat.{ℕ, zero, suc, _^_}
-use mathlib.Core.Bool.{Bool, false, cond, _||_}
+use mathlib.Core.Bool.{Bool, cond}
 use mathlib.Core.List.{List, [], _∷_}
 use lib.Dec.{eqb, leb}
 use lib.ListN.{length}
@@ -26,7 +26,7 @@ use Rattle.machine.specs.Serial.{lineOf, writeSbuf, writeScon}
 use Rattle.machine.specs.Interrupts.{Source, offered, vectorOf, inService, taken, noneInService, returned}
 use Rattle.machine.specs.Interrupts.Source.{none, source}
 use Rattle.machine.specs.Flags.{flags, anyRises}
-use Rattle.machine.specs.Cycle.{cycleOf, refused9, cycles, anyRefused9}
+use Rattle.machine.specs.Cycle.{cycleOf, cycles}
 
 -- a call that answers only that it passed
 abbrev pub passed : Device → Answer
@@ -124,10 +124,9 @@ unfoldable pub cycleAnswer : Device → ℕ → CycleAnswer
 cycleAnswer d pins =
     unless (accepted d) (refuseCycle 1 d)
     (unless (pinsOk pins) (refuseCycle 4 d)
-    (cond (refused9 pins d) (refuseCycle 9 d)
-    (passedCycle (cycleOf pins d))))
+    (passedCycle (cycleOf pins d)))
 
--- Jump: n cycles with one pin byte; if one of them is refused, the whole call is, by that number
+-- Jump: n cycles with one pin byte
 abbrev pub refuseRun : ℕ → Device → RunAnswer
 refuseRun n d = record { code = n; device = d }
 
@@ -146,8 +145,7 @@ jumpAnswer d pins n =
     unless (accepted d) (refuseRun 1 d)
     (unless (pinsOk pins) (refuseRun 4 d)
     (unless (leb n longest) (refuseRun 5 d)
-    (cond (anyRefused9 n pins d) (refuseRun 9 d)
-    (passedRun (cycles n pins d)))))
+    (passedRun (cycles n pins d))))
 
 -- Trace run: an entry has the pin byte on top and the cycles in its low 24 bits
 abbrev pub entryPins : ℕ → ℕ
@@ -177,18 +175,11 @@ unfoldable pub traceCycles : List ℕ → Device → Device
 traceCycles [] d = d
 traceCycles (e ∷ es) d = traceCycles es (cycles (entryCycles e) (entryPins e) d)
 
--- one of these cycles is refused
-unfoldable pub traceRefused9 : List ℕ → Device → Bool
-traceRefused9 [] d = false
-traceRefused9 (e ∷ es) d =
-    anyRefused9 (entryCycles e) (entryPins e) d || traceRefused9 es (cycles (entryCycles e) (entryPins e) d)
-
 unfoldable pub traceAnswer : Device → List ℕ → RunAnswer
 traceAnswer d es =
     unless (accepted d) (refuseRun 1 d)
     (unless (eqb (traceFault es) 0) (refuseRun (traceFault es) d)
-    (cond (traceRefused9 es d) (refuseRun 9 d)
-    (passedRun (traceCycles es d))))
+    (passedRun (traceCycles es d)))
 
 -- Look ahead: document 01's term for asking when a flag will rise
 
@@ -201,14 +192,13 @@ unfoldable pub firstRise : ℕ → ℕ → ℕ → Device → LookAnswer
 firstRise k zero pins d = Look.Nothing
 firstRise k (suc n) pins d = cond (rises pins d) (Look.At (suc k)) (firstRise (suc k) n pins (cycleOf pins d))
 
--- a look ahead makes the jump of its n cycles on a copy of the state
+-- a look ahead makes the jump of its n cycles on a copy of the state, and answers the first rise or none
 unfoldable pub lookAnswer : Device → ℕ → ℕ → LookAnswer
 lookAnswer d pins n =
     unless (accepted d) (Look.Refused 1)
     (unless (pinsOk pins) (Look.Refused 4)
     (unless (leb n longest) (Look.Refused 5)
-    (cond (anyRefused9 n pins d) (Look.Refused 9)
-    (firstRise 0 n pins d))))
+    (firstRise 0 n pins d)))
 
 -- Offer: the vector, or none
 unfoldable pub offerOf : Source → OfferAnswer

@@ -1,6 +1,6 @@
 -- Document 01, "One cycle, in this order": steps 1 to 8. P is the saved level of a pin, L its level now.
 use Prim.Native.Nat.{ℕ, zero, suc, _+_, _%_, _^_}
-use mathlib.Core.Bool.{Bool, false, cond, _&&_, _||_}
+use mathlib.Core.Bool.{cond, _&&_}
 use mathlib.Core.List.{List}
 use lib.Dec.{eqb}
 use lib.ListN.{getD}
@@ -16,7 +16,7 @@ use Rattle.machine.specs.Registers.{RXD, INT0, INT1, T0, T1, T2, T2EX, I
 use Rattle.machine.specs.Record.{pinsOf, levelsOf}
 use Rattle.machine.specs.Timers.{timersStep}
 use Rattle.machine.specs.Timer2.{timer2Step}
-use Rattle.machine.specs.Serial.{serialTicks, serialStep, rollsTwice}
+use Rattle.machine.specs.Serial.{serialTicks, serialStep}
 use Rattle.machine.specs.Interrupts.{external, seenOf}
 
 -- a pin falls when P = 1 and L = 0: 1 or 0
@@ -101,18 +101,7 @@ steps d pins =
 unfoldable pub cycleOf : ℕ → Device → Device
 cycleOf pins d = steps d (pinsOf (d .kind) pins)
 
--- the cycle is refused by 9: a serial counter rolls over twice in it
-unfoldable pub refused9 : ℕ → Device → Bool
-refused9 pins d =
-    let l = pinsOf (d .kind) pins in
-    rollsTwice (ticksIn d (counted d l)) (bit RXD l) (d .serial)
-
 -- n cycles with one pin byte
 unfoldable pub cycles : ℕ → ℕ → Device → Device
 cycles zero pins d = d
 cycles (suc n) pins d = cycles n pins (cycleOf pins d)
-
--- one of these cycles is refused
-unfoldable pub anyRefused9 : ℕ → ℕ → Device → Bool
-anyRefused9 zero pins d = false
-anyRefused9 (suc n) pins d = refused9 pins d || anyRefused9 n pins (cycleOf pins d)

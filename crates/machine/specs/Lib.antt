@@ -8,6 +8,7 @@ pub mod Serial
 pub mod Interrupts
 pub mod Flags
 pub mod Cycle
+pub mod Rollovers
 pub mod Calls
 pub mod Lists
 pub mod Cards

@@ -212,23 +212,6 @@ receive ticks rxd s = cond (eqb (serialMode (s .scon)) 0) (receiveShift rxd s) (
 unfoldable pub serialStep : Ticks → ℕ → Serial → Serial
 serialStep k rxd s = receive (k .receive) rxd (send (k .send) (withHalf (k .half) s))
 
--- Refusal 9: a serial counter rolls over twice in one cycle
-
--- how often the send counter rolls over in n ticks
-unfoldable pub sendRolls : ℕ → Serial → ℕ
-sendRolls zero s = 0
-sendRolls (suc n) s = cond (rollsOver (s .send .counter)) 1 0 + sendRolls n (sendTick s)
-
--- the receive counter counts only while working
-unfoldable pub receiveRolls : ℕ → ℕ → Serial → ℕ
-receiveRolls zero rxd s = 0
-receiveRolls (suc n) rxd s =
-    cond (not (eqb (s .receive .position) 0) && rollsOver (s .receive .counter)) 1 0 + receiveRolls n rxd (receiveTick rxd s)
-
--- one of the two rolls over twice; mode 0 has no ticks
-unfoldable pub rollsTwice : Ticks → ℕ → Serial → Bool
-rollsTwice k rxd s = leb 2 (sendRolls (k .send) s) || leb 2 (receiveRolls (k .receive) rxd (send (k .send) s))
-
 -- Writes
 
 -- writing SBUF puts the byte in bits 0-7 of the send value, TB8 in bit 8, and position 1, whatever was under way

@@ -1,4 +1,5 @@
-// The refusals by their numbers, as document 01's table has them; a call that passes answers PASSED.
+// The refusals by their numbers, as document 01's table has them; a call that passes answers PASSED. Number 9 is retired and is not
+// used again: no cycle of an accepted device can meet it (proofs/Rollovers.antt).
 pub const PASSED: u8 = 0;
 
 pub const BAD_RECORD: u8 = 1;
@@ -16,5 +17,3 @@ pub const NOTHING_OFFERED: u8 = 6;
 pub const NOTHING_IN_SERVICE: u8 = 7;
 
 pub const EMPTY_ENTRY: u8 = 8;
-
-pub const ROLLED_TWICE: u8 = 9;

@@ -10,7 +10,7 @@ use Rattle.machine.specs.Record.{serialMode}
 use Rattle.machine.specs.Counting.{pair13, pair16}
 use Rattle.machine.specs.Timer2.{count2, baudRate}
 use Rattle.machine.specs.Serial.{mode2Ticks}
-use Rattle.laws.proofs.Choices.{chosen}
+use Rattle.machine.proofs.Choices.{chosen}
 use Rattle.strides.specs.Stride.{left, leftIn, roomOf, moves2, left2, room2, counts2, ticks2}
 
 -- a unit that counts has its own room

@@ -9,7 +9,7 @@ use Rattle.machine.specs.Bits.{bit}
 use Rattle.machine.specs.Registers.{REN}
 use Rattle.machine.specs.Serial as S
 use Rattle.machine.specs.Serial.{withReceive, withSample}
-use Rattle.laws.proofs.Choices.{cond-same}
+use Rattle.machine.proofs.Choices.{cond-same}
 
 -- the last line sample at l
 abbrev pub sampled : ℕ → Serial → Serial

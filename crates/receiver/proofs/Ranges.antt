@@ -14,8 +14,9 @@ use Rattle.machine.specs.Serial as S
 use Rattle.machine.specs.Serial.{withReceive, withReceived, receiveAt, withVotes, withValue, withSample, counterNext, rollsOver}
 use Rattle.laws.proofs.Bits.{field-set-above, field-put-above, set-lt, put-lt}
 use Rattle.laws.specs.Ranges.{SenderOk, ReceiverOk, SerialOk}
-use Rattle.laws.proofs.Choices.{chosen, cond-has, by-test, or-left, or-right}
-use Rattle.receiver.proofs.Receiving.{takes, bit-of-below, done-receive}
+use Rattle.machine.proofs.Choices.{chosen, cond-has, by-test, or-left, or-right}
+use Rattle.machine.proofs.Rollovers.{done-receive}
+use Rattle.receiver.proofs.Receiving.{takes, bit-of-below}
 
 -- the last position of mode m
 abbrev pub last : ℕ → ℕ

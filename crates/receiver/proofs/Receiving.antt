@@ -1,18 +1,19 @@
--- The receiver: two tests of its definitions by name, and what a tick leaves as it was: the position at a count that
--- is no rollover, and the receive fields of a whole frame.
-use mathlib.Core.Path.{_≡_, refl, sym}
+-- The receiver: two tests of its definitions by name, the position at a count that is no rollover, and what a whole frame
+-- leaves.
+use mathlib.Core.Path.{_≡_, sym}
 use mathlib.Core.Bool.{Bool, true, false, cond, _&&_, _||_}
-use Prim.Native.Nat.{ℕ, _+_, _%_, _≤_}
+use Prim.Native.Nat.{ℕ, _+_, _≤_}
 use native.Mathlib.Omega.{arith}
 use lib.Dec.{eqb, leb}
 use borrow.Author.Tests.{ne-eqb}
 use Rattle.machine.specs.declared.Receiver.{Receiver}
 use Rattle.machine.specs.declared.Serial.{Serial}
-use Rattle.machine.specs.Bits.{bit, setBit, putBit}
+use Rattle.machine.specs.Bits.{bit}
 use Rattle.machine.specs.Record.{serialMode}
-use Rattle.machine.specs.Registers.{RI, RB8, SM2, REN}
-use Rattle.machine.specs.Serial.{withReceive, withReceived, receiveAt, counterNext, receiveCounted, bitOf, frameDone}
-use Rattle.laws.proofs.Choices.{chosen}
+use Rattle.machine.specs.Registers.{RI, SM2, REN}
+use Rattle.machine.specs.Serial.{withReceive, receiveAt, counterNext, receiveCounted, bitOf, frameDone}
+use Rattle.machine.proofs.Choices.{chosen}
+use Rattle.machine.proofs.Rollovers.{done-receive}
 
 -- the tests of the definitions: a whole frame is taken, and a write of SCON with value v asks to receive at position p
 abbrev pub takes : ℕ → Serial → Bool
@@ -30,13 +31,7 @@ pub bit-of-below : (votes rxd : ℕ) → bitOf votes rxd ≤ 1
 unfolding bitOf
 bit-of-below votes rxd = chosen (λ (b : ℕ). b ≤ 1) (leb 2 (votes + rxd)) 1 0 (omega arith) (omega arith)
 
--- a whole frame changes no receive field
-pub done-receive : (b : ℕ) (s : Serial) → frameDone b s .receive ≡ s .receive
-unfolding frameDone
-done-receive b s =
-    chosen (λ (t : Serial). t .receive ≡ s .receive) (takes b s) (withReceived (setBit RI (putBit RB8 b (s .scon))) (s .receive .value % 256) s) s refl refl
-
--- it rests in mode 1
+-- a whole frame rests in mode 1
 pub done-rests : (b : ℕ) (rests : Bool) (s : Serial)
     → withReceive (receiveAt (cond rests 0 (s .receive .position)) (frameDone b s .receive)) (frameDone b s)
     ≡ cond rests (withReceive (receiveAt 0 (s .receive)) (frameDone b s)) (frameDone b s)

@@ -1,53 +1,33 @@
--- A record is accepted exactly where each field is in its range: the tests of the record check taken apart and put together again.
-use mathlib.Core.Path.{_≡_, refl, sym, subst, _∙_}
-use mathlib.Core.Bool.{Bool, true, false, cond, _&&_}
-use mathlib.Core.List.{List, [], _∷_}
+-- A record is accepted exactly where each field is in its range: the tests of the record check, taken apart in the machine's proofs and
+-- here put together again.
+use mathlib.Core.Path.{_≡_, refl, sym, _∙_}
+use mathlib.Core.Bool.{Bool, true, false, cond}
 use mathlib.Core.Logic.{_⊎_, inl, inr}
 use Prim.Native.Nat.{ℕ, _<_, _≤_}
 use native.Mathlib.Nat.{le-pred-of-lt}
 use native.Mathlib.Omega.{arith}
-use lib.Dec.{eqb, ltb, lit<}
-use lib.Bits.{bitAnd, and-zero-l, and-zero-r}
-use borrow.Author.Tests.{ltb-true, eqb-true, eq-eqb}
+use lib.Dec.{eqb}
+use lib.Bits.{bitAnd, and-zero-r}
+use borrow.Author.Tests.{eqb-true, eq-eqb}
 use Rattle.machine.specs.declared.Device.{Device}
-use Rattle.machine.specs.Registers.{PCON, TCON, TMOD, TL0, TL1, TH0, TH1, SCON, SBUF, IE, IP, T2CON, RCAP2L, RCAP2H, TL2, TH2, Row, table, implementedIn, implemented, within}
-use Rattle.machine.specs.Record.{Register, registers, registersOk, hiddenFields, hiddenOk, levelsOk, kindOk, accepted, blank, zeros, resetOf, dueMost}
+use Rattle.machine.specs.Registers.{PCON, TCON, TMOD, TL0, TL1, TH0, TH1, SCON, SBUF, IE, IP, T2CON, RCAP2L, RCAP2H, TL2, TH2, table, implementedIn, implemented, within}
+use Rattle.machine.specs.Record.{registers, hiddenFields, kindOk, accepted, blank, zeros, resetOf, dueMost}
 use Rattle.machine.specs.Calls.{valueIn}
-use Rattle.laws.proofs.Bits.{lt-within, within-le}
-use Rattle.laws.proofs.Choices.{chosen, cond-has, by-test, and-left, and-right, and-two}
+use Rattle.machine.proofs.Choices.{cond-has, by-test}
+use Rattle.machine.proofs.Accepted.{Each, Most, kind-ok, bits, byte, hidden-most, levels-ok}
+use Rattle.machine.proofs.Accepted.Each.{done, _&_}
 use Rattle.laws.specs.Ranges.{Ranges, Absent}
-use Rattle.record.proofs.Tests.{Each, Most, registers-every, hidden-each, hidden-every}
-use Rattle.record.proofs.Tests.Each.{done, _&_}
+use Rattle.laws.proofs.Bits.{lt-within}
+use Rattle.record.proofs.Tests.{registers-every, hidden-every}
 
 -- kind 51 or 52
 kinds : (kind : ℕ) → kindOk kind ≡ true → (kind ≡ 51) ⊎ (kind ≡ 52)
 kinds kind e =
     by-test (eqb kind 51) (λ p. inl (eqb-true kind 51 p)) (λ q. inr (eqb-true kind 52 (rw q at e)))
 
-kind-ok : (kind : ℕ) → (kind ≡ 51) ⊎ (kind ≡ 52) → kindOk kind ≡ true
-kind-ok kind (inl e) = rw e
-kind-ok kind (inr e) = rw e
-
--- masks are bytes, on every kind and at every address
-abbrev bytes : List Row → Bool
-bytes [] = true
-bytes (r ∷ rows) = (ltb (r .on51) 256 && ltb (r .on52) 256) && bytes rows
-
-implemented-byte : (rows : List Row) → bytes rows ≡ true → (kind a : ℕ) → implementedIn rows kind a < 256
-unfolding implementedIn
-implemented-byte [] e kind a = lit< tt
-implemented-byte (r ∷ rows) e kind a =
-    let h = and-two (ltb (r .on51) 256 && ltb (r .on52) 256) (bytes rows) e in
-    let m = and-two (ltb (r .on51) 256) (ltb (r .on52) 256) (h .0) in
-    chosen (λ (n : ℕ). n < 256) (eqb (r .address) a) (cond (eqb kind 51) (r .on51) (r .on52)) (implementedIn rows kind a)
-    (chosen (λ (n : ℕ). n < 256) (eqb kind 51) (r .on51) (r .on52) (ltb-true _ _ (m .0)) (ltb-true _ _ (m .1)))
-    (implemented-byte rows (h .1) kind a)
-
--- a register within its implemented bits is a byte
-within-byte : (kind a x : ℕ) → within (implemented kind a) x ≡ true → x < 256
-unfolding implemented table
-within-byte kind a x e =
-    omega (arith, implemented-byte table refl kind a, within-le x (implemented kind a) (eqb-true (bitAnd x (implemented kind a)) x e))
+is-kind : (kind : ℕ) → (kind ≡ 51) ⊎ (kind ≡ 52) → kindOk kind ≡ true
+is-kind kind (inl e) = rw e
+is-kind kind (inr e) = rw e
 
 -- a byte is within all eight bits, on either kind
 full : (old : Bool) (x : ℕ) → x < 256 → within (cond old 0xff 0xff) x ≡ true
@@ -75,38 +55,10 @@ no-due kind x e h = let z : x ≤ 0 = rw e at h in omega arith
 most-due : (kind x : ℕ) → x ≤ 1 → (eqb kind 51 ≡ true → x ≡ 0) → x ≤ dueMost kind
 most-due kind x h z = cond-has (λ (m : ℕ). x ≤ m) (eqb kind 51) 0 1 (λ e. omega (arith, z e)) (λ e. h)
 
--- the register at an address, 0 where there is none, is within its implemented bits
-held : (kind : ℕ) (rs : List Register) → registersOk kind rs ≡ true → (a : ℕ) → within (implemented kind a) (valueIn rs a) ≡ true
-unfolding valueIn
-held kind [] e a = eq-eqb (bitAnd 0 (implemented kind a)) 0 (and-zero-l (implemented kind a))
-held kind (r ∷ rs) e a =
-    let h = and-two (within (implemented kind (r .address)) (r .value)) (registersOk kind rs) e in
-    cond-has (λ (x : ℕ). within (implemented kind a) x ≡ true) (eqb (r .address) a) (r .value) (valueIn rs a)
-    (λ q. subst (λ (n : ℕ). within (implemented kind n) (r .value) ≡ true) (eqb-true (r .address) a q) (h .0))
-    (λ q. held kind rs (h .1) a)
-
--- an accepted record, test by test
 module _ (d : Device) (ok : accepted d ≡ true) where
-  kind-is : kindOk (d .kind) ≡ true
-  unfolding accepted
-  kind-is = and-left (kindOk (d .kind)) _ ok
-
-  rest : (registersOk (d .kind) (registers d) && (hiddenOk (hiddenFields d) && levelsOk (d .levels))) ≡ true
-  unfolding accepted
-  rest = and-right (kindOk (d .kind)) _ ok
-
-  others : (hiddenOk (hiddenFields d) && levelsOk (d .levels)) ≡ true
-  others = and-right (registersOk (d .kind) (registers d)) _ rest
-
-  -- the register at an address: within its implemented bits, a byte, and 0 where kind 51 has none
-  bits : (a : ℕ) → within (implemented (d .kind) a) (valueIn (registers d) a) ≡ true
-  bits = held (d .kind) (registers d) (and-left (registersOk (d .kind) (registers d)) _ rest)
-
-  byte : (a : ℕ) → valueIn (registers d) a < 256
-  byte a = within-byte (d .kind) a (valueIn (registers d) a) (bits a)
-
+  -- a register that kind 51 has none of is 0 on it
   gone : (a : ℕ) → implemented 51 a ≡ 0 → d .kind ≡ 51 → valueIn (registers d) a ≡ 0
-  gone a z e = none (d .kind) a (valueIn (registers d) a) e z (bits a)
+  gone a z e = none (d .kind) a (valueIn (registers d) a) e z (bits d ok a)
 
   -- with each hidden field in its range, in document 01's order
   ranges-with : Each Most (hiddenFields d) → Ranges d
@@ -132,27 +84,27 @@ module _ (d : Device) (ok : accepted d ≡ true) where
       & cycle
       & done) =
       record {
-        kind = kinds (d .kind) kind-is;
-        pcon = byte PCON;
-        pconBits = bits PCON;
+        kind = kinds (d .kind) (kind-ok d ok);
+        pcon = byte d ok PCON;
+        pconBits = bits d ok PCON;
         timers =
             record {
-              tcon = byte TCON;
-              tmod = byte TMOD;
-              tl0 = byte TL0;
-              tl1 = byte TL1;
-              th0 = byte TH0;
-              th1 = byte TH1;
+              tcon = byte d ok TCON;
+              tmod = byte d ok TMOD;
+              tl0 = byte d ok TL0;
+              tl1 = byte d ok TL1;
+              th0 = byte d ok TH0;
+              th1 = byte d ok TH1;
               due0 = due0;
               due1 = due1;
             };
         timer2 =
             record {
-              t2con = byte T2CON;
-              rcap2l = byte RCAP2L;
-              rcap2h = byte RCAP2H;
-              tl2 = byte TL2;
-              th2 = byte TH2;
+              t2con = byte d ok T2CON;
+              rcap2l = byte d ok RCAP2L;
+              rcap2h = byte d ok RCAP2H;
+              tl2 = byte d ok TL2;
+              th2 = byte d ok TH2;
               due2 = due-most (d .kind) _ due2;
             };
         absent =
@@ -166,7 +118,7 @@ module _ (d : Device) (ok : accepted d ≡ true) where
             };
         serial =
             record {
-              scon = byte SCON;
+              scon = byte d ok SCON;
               send = record { position = sendPosition; value = sendValue; counter = sendCounter };
               receive =
                   record {
@@ -177,26 +129,26 @@ module _ (d : Device) (ok : accepted d ≡ true) where
                     sample = sample;
                   };
               half = half;
-              received = byte SBUF;
+              received = byte d ok SBUF;
             };
         interrupts =
             record {
-              ie = byte IE;
-              ieBits = bits IE;
-              ip = byte IP;
-              ipBits = bits IP;
+              ie = byte d ok IE;
+              ieBits = bits d ok IE;
+              ip = byte d ok IP;
+              ipBits = bits d ok IP;
               seen = seen;
               polled = polled;
               low = low;
               high = high;
             };
-        levels = and-right (hiddenOk (hiddenFields d)) _ others;
+        levels = levels-ok d ok;
         cycle = omega (arith, cycle);
       }
 
   -- an accepted record has each field in its range
   pub ranges-of : Ranges d
-  ranges-of = ranges-with (hidden-each (hiddenFields d) (and-left (hiddenOk (hiddenFields d)) _ others))
+  ranges-of = ranges-with (hidden-most d ok)
 
 -- a record with each field in its range is accepted
 pub accepted-of : (d : Device) → Ranges d → accepted d ≡ true
@@ -209,7 +161,7 @@ accepted-of d r =
     let s = r .serial in
     let i = r .interrupts in
     rw (
-      kind-ok (d .kind) (r .kind),
+      is-kind (d .kind) (r .kind),
       registers-every (d .kind) (registers d)
           (r .pconBits
           & full old _ (t .tcon)

@@ -3,15 +3,15 @@
 use mathlib.Core.Path.{_≡_, refl, sym, ap, _∙_}
 use mathlib.Core.Bool.{Bool, true, _&&_, and-true, and-assoc}
 use mathlib.Core.List.{List, [], _∷_, map}
-use Prim.Native.Nat.{ℕ, zero, suc, _≤_}
+use Prim.Native.Nat.{ℕ, zero, suc}
 use native.Mathlib.Omega.{arith}
-use lib.Dec.{leb}
 use lib.ListN.{length, getD}
-use borrow.Author.Tests.{leb-true, le-leb}
+use borrow.Author.Tests.{le-leb}
 use Rattle.machine.specs.declared.Device.{Device}
 use Rattle.machine.specs.Registers.{implemented, within}
-use Rattle.laws.proofs.Choices.{and-two}
 use Rattle.machine.specs.Record.{Register, registers, registersOk, Hidden, hiddenOk}
+use Rattle.machine.proofs.Accepted.{Each, Most}
+use Rattle.machine.proofs.Accepted.Each.{done, _&_}
 
 -- from the left, as the code joins them
 abbrev leftly : Bool → List Bool → Bool
@@ -42,12 +42,6 @@ whole zero (x ∷ l) e = absurd (omega arith)
 whole (suc n) [] e = absurd (omega arith)
 whole (suc n) (x ∷ l) e = ap (λ (m : List ℕ). x ∷ m) (shifted n 0 x l ∙ whole n l (omega arith))
 
-infixr 5 _&_
--- a list of facts, one about each element
-pub data Each {A : Type 0} (P : A → Type 0) : List A → Type 0 where
-  done : Each P []
-  _&_ : {x : A} {xs : List A} → P x → Each P xs → Each P (x ∷ xs)
-
 -- a register within its implemented bits, and the tests of a row of them
 abbrev pub Kept : ℕ → Register → Type 0
 Kept kind r = within (implemented kind (r .address)) (r .value) ≡ true
@@ -58,16 +52,6 @@ registerTests d = map (λ (r : Register). within (implemented (d .kind) (r .addr
 pub registers-every : (kind : ℕ) (rs : List Register) → Each (Kept kind) rs → registersOk kind rs ≡ true
 registers-every kind [] done = refl
 registers-every kind (r ∷ rs) (p & q) = rw p (registers-every kind rs q)
-
--- a hidden field within its range
-abbrev pub Most : Hidden → Type 0
-Most h = h .value ≤ h .most
-
-pub hidden-each : (hs : List Hidden) → hiddenOk hs ≡ true → Each Most hs
-hidden-each [] e = done
-hidden-each (h ∷ hs) e =
-    let s = and-two (leb (h .value) (h .most)) (hiddenOk hs) e in
-    leb-true _ _ (s .0) & hidden-each hs (s .1)
 
 pub hidden-every : (hs : List Hidden) → Each Most hs → hiddenOk hs ≡ true
 hidden-every [] done = refl

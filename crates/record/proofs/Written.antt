@@ -12,7 +12,7 @@ use Rattle.machine.specs.Record.{accepted}
 use Rattle.machine.specs.Serial.{writeScon, writeSbuf}
 use Rattle.machine.specs.Calls.{stored}
 use Rattle.laws.proofs.Bits.{and-twice}
-use Rattle.laws.proofs.Choices.{cond-has}
+use Rattle.machine.proofs.Choices.{cond-has}
 use Rattle.serial.proofs.Ranges.{write-scon-ok, write-sbuf-ok}
 use Rattle.laws.specs.Ranges.{Absent, SerialOk, Ranges}
 use Rattle.record.proofs.Accepted.{ranges-of, accepted-of}

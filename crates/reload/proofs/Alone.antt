@@ -14,7 +14,7 @@ use Rattle.machine.specs.Record.{serialMode}
 use Rattle.machine.specs.Timers.{timer0Mode, timer1Mode, counts0, counts1, countsHigh0}
 use Rattle.machine.specs.Serial.{startFound}
 use Rattle.machine.specs.Calls.{longest}
-use Rattle.laws.proofs.Choices.{and-two, and-four, or-left, or-right}
+use Rattle.machine.proofs.Choices.{and-two, and-four, or-left, or-right}
 use Rattle.strides.specs.Stride.{settledAt, left, leftIn, moves1, roomTimers, moves2, room2, roomAt}
 use Rattle.strides.proofs.Settles.{Rest, settled-rest, rest-settled}
 use Rattle.reload.specs.Reload.{timer1Alone, lineRests, reloadOnly, idlesAt}

@@ -15,7 +15,7 @@ use Rattle.machine.specs.Flags.{flags, anyRises}
 use Rattle.machine.specs.Cycle.{cycleOf, cycles}
 use Rattle.machine.specs.Calls.{rises, firstRise}
 use Rattle.laws.specs.Ranges.{Ranges}
-use Rattle.laws.proofs.Choices.{chosen, and-right, and-both}
+use Rattle.machine.proofs.Choices.{chosen, and-right, and-both}
 use Rattle.cycle.proofs.Keeps.{cycle-ranges}
 use Rattle.strides.specs.Stride.{timersSettled, serialSettled, othersSettled, settledAt, left, room}
 use Rattle.strides.proofs.Bools.{never-both}

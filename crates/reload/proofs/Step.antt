@@ -22,7 +22,7 @@ use Rattle.machine.specs.Serial.{ticks1, ticksOf, serialTicks, withHalf, serial
 use Rattle.machine.specs.Cycle.{falls, counted, ticksIn, steps}
 use Rattle.laws.specs.Ranges.{SerialOk, Ranges}
 use Rattle.laws.proofs.Bits.{set-same}
-use Rattle.laws.proofs.Choices.{clash, by-test}
+use Rattle.machine.proofs.Choices.{clash, by-test}
 use Rattle.receiver.proofs.Quiet.{sampled}
 use Rattle.serial.proofs.Sending.{sendCounter}
 use Rattle.serial.proofs.Quiet.{rest-shift, rest-ticks}

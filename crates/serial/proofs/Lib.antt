@@ -1,4 +1,3 @@
 pub mod Sending
 pub mod Ranges
 pub mod Quiet
-pub mod Rollover

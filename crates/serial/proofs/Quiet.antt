@@ -12,7 +12,7 @@ use Rattle.machine.specs.Record.{serialMode}
 use Rattle.machine.specs.Serial as S
 use Rattle.machine.specs.Serial.{withHalf, rollsOver, counterNext}
 use Rattle.serial.specs.Rest.{idles}
-use Rattle.laws.proofs.Choices.{cond-same, and-left, and-right, by-test}
+use Rattle.machine.proofs.Choices.{cond-same, and-left, and-right, by-test}
 use Rattle.receiver.proofs.Quiet.{sampled, rest-receive-ticks}
 use Rattle.serial.proofs.Sending.{sendCounter}
 

@@ -1,5 +1,4 @@
--- The serial port stays within its ranges and in its mode, part by part, in a cycle and in a write; and at most 6
--- ticks come.
+-- The serial port stays within its ranges and in its mode, part by part, in a cycle and in a write.
 use mathlib.Core.Path.{_≡_, refl, sym, subst, _∙_}
 use mathlib.Core.Bool.{false, cond}
 use Prim.Native.Nat.{ℕ, zero, suc, _+_, _%_, _≤_, _<_, zero-le}
@@ -11,12 +10,12 @@ use Rattle.machine.specs.declared.Serial.{Serial}
 use Rattle.machine.specs.declared.Ticks.{Ticks}
 use Rattle.machine.specs.Bits.{bit, setBit}
 use Rattle.machine.specs.Record.{serialMode, lastPosition}
-use Rattle.machine.specs.Registers.{SMOD, TB8, TI, RCLK, TCLK, SM01}
+use Rattle.machine.specs.Registers.{SMOD, TB8, TI, SM01}
 use Rattle.machine.specs.Serial as S
 use Rattle.machine.specs.Serial.{withSend, withReceive, withHalf, sendAt, receiveAt, sendCounted, rollsOver}
 use Rattle.laws.proofs.Bits.{bit-below, field-set-above, set-lt}
-use Rattle.laws.specs.Ranges.{SenderOk, ReceiverOk, SerialOk, TicksOk}
-use Rattle.laws.proofs.Choices.{chosen, cond-has}
+use Rattle.laws.specs.Ranges.{SenderOk, ReceiverOk, SerialOk}
+use Rattle.machine.proofs.Choices.{chosen, cond-has}
 use Rattle.receiver.proofs.Receiving.{asked}
 use Rattle.receiver.proofs.Ranges.{last, last-least, last-most, Kept, receive-at, counted, receive-kept}
 
@@ -111,33 +110,11 @@ step-ok k rxd s h l o = ok (serialMode (s .scon)) (S.serialStep k rxd s) (step-k
 
 -- Step 4
 
-ticks1-within : (smod half overflow1 : ℕ) → overflow1 ≤ 1 → S.ticks1 smod half overflow1 ≤ 1
-unfolding S.ticks1
-ticks1-within smod half o h =
-    chosen (λ (n : ℕ). n ≤ 1) (eqb smod 1) o _ h (chosen (λ (n : ℕ). n ≤ 1) (eqb half 1) o 0 h zero-le)
-
-ticks-of-within : (mode smod clock one two : ℕ) → one ≤ 1 → two ≤ 6 → S.ticksOf mode smod clock one two ≤ 6
-unfolding S.ticksOf
-ticks-of-within mode smod clock one two h l =
-    chosen (λ (n : ℕ). n ≤ 6) (eqb mode 0) 0 _ zero-le
-    (chosen (λ (n : ℕ). n ≤ 6) (eqb mode 2) _ _
-    (chosen (λ (n : ℕ). n ≤ 6) (eqb smod 1) 6 3 (omega arith) (omega arith))
-    (chosen (λ (n : ℕ). n ≤ 6) (eqb clock 1) two one l (omega arith)))
-
-half-within : (smod half overflow1 : ℕ) → half ≤ 1 → S.halfAfter smod half overflow1 ≤ 1
-unfolding S.halfAfter
-half-within smod half o h = chosen (λ (n : ℕ). n ≤ 1) (eqb smod 1) half ((half + o) % 2) h (omega arith)
-
-pub ticks-ok : (pcon t2con : ℕ) (s : Serial) (overflow1 overflows2 : ℕ) → s .half ≤ 1 → overflow1 ≤ 1 → overflows2 ≤ 6
-    → TicksOk (S.serialTicks pcon t2con s overflow1 overflows2)
-unfolding S.serialTicks
-ticks-ok pcon t2con s one two h l n =
-    let o = ticks1-within (bit SMOD pcon) (s .half) one l in
-    record {
-      send = ticks-of-within (serialMode (s .scon)) (bit SMOD pcon) (bit TCLK t2con) (S.ticks1 (bit SMOD pcon) (s .half) one) two o n;
-      receive = ticks-of-within (serialMode (s .scon)) (bit SMOD pcon) (bit RCLK t2con) (S.ticks1 (bit SMOD pcon) (s .half) one) two o n;
-      half = half-within (bit SMOD pcon) (s .half) one h;
-    }
+pub half-within : (pcon t2con : ℕ) (s : Serial) (overflow1 overflows2 : ℕ) → s .half ≤ 1
+    → S.serialTicks pcon t2con s overflow1 overflows2 .half ≤ 1
+unfolding S.serialTicks S.halfAfter
+half-within pcon t2con s one two h =
+    chosen (λ (n : ℕ). n ≤ 1) (eqb (bit SMOD pcon) 1) (s .half) ((s .half + one) % 2) h (omega arith)
 
 -- Writes
 

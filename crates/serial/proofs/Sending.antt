@@ -13,7 +13,7 @@ use Rattle.machine.specs.Bits.{setBit}
 use Rattle.machine.specs.Record.{lastPosition}
 use Rattle.machine.specs.Registers.{TI}
 use Rattle.machine.specs.Serial.{withSend, sendAt, sendMove, sendTick, sendTicks}
-use Rattle.laws.proofs.Choices.{cond-ap}
+use Rattle.machine.proofs.Choices.{cond-ap}
 
 -- the send counter at c
 abbrev pub sendCounter : ℕ → Serial → Serial

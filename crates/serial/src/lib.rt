@@ -1,6 +1,6 @@
 // The serial port: sending, step 5 of a machine cycle, and the writes to SBUF and SCON.
 ghost use mathlib.Core.Path.{_≡_};
-ghost use Prim.Native.Nat.{ℕ, _≤_};
+ghost use Prim.Native.Nat.{_≤_};
 ghost use Rattle.machine.specs.Record.{lastPosition};
 ghost use Rattle.machine.specs.Serial as S;
 ghost use Rattle.laws.specs.Ranges.{SerialOk, TicksOk};
@@ -131,13 +131,4 @@ pub fn serial_step(k: Ticks, rxd: u8, s: Serial) -> Serial
     } else {
         receive_ticks(k.receive, rxd, send_ticks(k.send, t))
     }
-}
-
-// Refusal 9: one of the two counters rolls over twice.
-pub fn rolls_twice(k: Ticks, s: Serial) -> bool
-    requires { ⌜ TicksOk k ⌝ }
-    requires { ⌜ SerialOk s ⌝ }
-    ensures { λ r. ⌜ ((rxd : ℕ) → r ≡ S.rollsTwice k rxd s) ⌝ }
-{
-    (s.send.counter + k.send >= 32) | (s.receive.counter + k.receive >= 32)
 }

@@ -6,7 +6,7 @@ use Prim.Native.Nat.{ℕ, zero, suc}
 use native.Mathlib.Omega.{arith}
 use lib.Dec.{eqb}
 use borrow.Author.Tests.{eq-eqb, ne-eqb, eqb-true}
-use Rattle.laws.proofs.Choices.{clash, and-left, and-right, and-both}
+use Rattle.machine.proofs.Choices.{clash, and-left, and-right, and-both}
 use Rattle.strides.specs.Busy.{same}
 
 -- lists that are the same are equal

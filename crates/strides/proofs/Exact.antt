@@ -20,7 +20,7 @@ use Rattle.machine.specs.Flags.{flags}
 use Rattle.machine.specs.Cycle.{falls, externals, timersAfter, timer2After, counted, overflowsOf, ticksIn, steps, cycleOf, cycles}
 use Rattle.machine.specs.Calls.{longest}
 use Rattle.laws.specs.Ranges.{Ranges}
-use Rattle.laws.proofs.Choices.{or-left, or-right, or-neither, not-differs}
+use Rattle.machine.proofs.Choices.{or-left, or-right, or-neither, not-differs}
 use Rattle.strides.specs.Busy.{same, overflowed, overflows, working, watched, busy}
 use Rattle.strides.specs.Stride.{startNext, roomAt, strideTimers, stride2, strideSerial, strideAt, room, stride}
 use Rattle.strides.proofs.Bools.{same-equal, same-self}

@@ -10,7 +10,7 @@ use Rattle.machine.specs.declared.Count.{Count}
 use Rattle.machine.specs.Counting.{pair13, pair16, count13, count16, reload8, hold}
 use Rattle.machine.specs.Timers.{countIn}
 use Rattle.machine.specs.Calls.{longest}
-use Rattle.laws.proofs.Choices.{cond-ap, cond-same}
+use Rattle.machine.proofs.Choices.{cond-ap, cond-same}
 use Rattle.laws.proofs.Counting.{count-eq, next-up, overflow-up, nextOr-up}
 use Rattle.strides.specs.Stride.{roomOf, left, leftIn, by13, by16, by8, movedIn, moved}
 

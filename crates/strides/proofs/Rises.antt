@@ -16,7 +16,7 @@ use Rattle.machine.specs.Calls.{rises, firstRise}
 use Rattle.laws.specs.Ranges.{Ranges}
 use Rattle.cycle.proofs.Keeps.{cycle-ranges}
 use Rattle.strides.specs.Stride.{room, stride, strideAt, strideTimers, stride2, strideSerial}
-use Rattle.laws.proofs.Choices.{or-neither}
+use Rattle.machine.proofs.Choices.{or-neither}
 use Rattle.strides.proofs.Bools.{never-both}
 use Rattle.strides.proofs.Strides.{quiet-cycle, cycle-room}
 

@@ -14,7 +14,7 @@ use Rattle.machine.specs.Registers.{SMOD, REN, RCLK, TCLK}
 use Rattle.machine.specs.Record.{serialMode}
 use Rattle.machine.specs.Serial.{halfAfter, ticks1, mode2Ticks, ticksOf, serialTicks, withHalf, withReceive, send, startFound, receiveStart, receiveCounted, receiveWork, receiveTick, receiveTicks, receive, serialStep}
 use Rattle.laws.specs.Ranges.{SerialOk}
-use Rattle.laws.proofs.Choices.{chosen, cond-same, by-test, and-left, and-right, and-two, and-both}
+use Rattle.machine.proofs.Choices.{chosen, cond-same, by-test, and-left, and-right, and-two, and-both}
 use Rattle.receiver.proofs.Quiet as Quiet
 use Rattle.serial.proofs.Sending.{sendCounter}
 use Rattle.serial.proofs.Quiet.{rest-send-ticks, rest-shift, rest-no-ticks, rest-ticks}

@@ -16,7 +16,7 @@ use Rattle.machine.specs.Cycle.{falls, externals}
 use Rattle.strides.specs.Busy.{same}
 use Rattle.strides.specs.Stride.{levelSettled, timersSettled, startNext, serialSettled, interruptsSettled, othersSettled, settledAt}
 use Rattle.laws.proofs.Bits.{bit-below, bit-set, bit-set-other, bit-put, bit-put-other, clear-put, set-same, put-same}
-use Rattle.laws.proofs.Choices.{chosen, and-two, and-four}
+use Rattle.machine.proofs.Choices.{chosen, and-two, and-four}
 use Rattle.strides.proofs.Bools.{same-equal, same-self, never-both}
 
 -- seen as the flags have it

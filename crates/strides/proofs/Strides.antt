@@ -14,7 +14,7 @@ use Rattle.machine.specs.Timer2.{timer2Step}
 use Rattle.machine.specs.Cycle.{falls, counted, overflowsOf, ticksIn, steps, cycleOf, cycles}
 use Rattle.machine.specs.Calls.{longest}
 use Rattle.laws.specs.Ranges.{Ranges}
-use Rattle.laws.proofs.Choices.{chosen, and-two, and-both}
+use Rattle.machine.proofs.Choices.{chosen, and-two, and-both}
 use Rattle.cycle.proofs.Keeps.{cycle-ranges}
 use Rattle.strides.specs.Stride.{timersSettled, serialSettled, othersSettled, settledAt, roomTimers, room2, roomAt, strideTimers, stride2, strideSerial, withParts, strideAt, room, stride}
 use Rattle.strides.proofs.Settles.{Rest, settled-rest, no-fall}

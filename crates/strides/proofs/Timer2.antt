@@ -16,7 +16,7 @@ use Rattle.machine.specs.Calls.{longest}
 use Rattle.laws.specs.Counting.{overflowsOr}
 use Rattle.laws.proofs.Counting.{countsOr-up, overflowsOr-up, countTimes-are}
 use Rattle.strides.specs.Stride.{roomOf, left, moves2, left2, room2, counts2, stride2}
-use Rattle.laws.proofs.Choices.{clash}
+use Rattle.machine.proofs.Choices.{clash}
 use Rattle.strides.proofs.Pairs.{unit-room, unit-back}
 use Rattle.strides.proofs.Records.{count2-path}
 

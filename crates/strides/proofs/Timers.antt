@@ -12,7 +12,7 @@ use Rattle.machine.specs.Counting.{next, overflow, count8, hold}
 use Rattle.machine.specs.Timers.{timer0Mode, timer1Mode, countIn, flagged, counts0, counts1, countsHigh0, pair0, high0, highOverflow0, pair1, timerFlags, timersStep}
 use Rattle.machine.specs.Calls.{longest}
 use Rattle.strides.specs.Stride.{roomOf, left, leftIn, by8, moved, moves1, roomTimers, strideTimers}
-use Rattle.laws.proofs.Choices.{and-left}
+use Rattle.machine.proofs.Choices.{and-left}
 use Rattle.strides.proofs.Records.{timers-path, timers-counted-path}
 use Rattle.laws.proofs.Counting.{count-eq}
 use Rattle.strides.proofs.Pairs.{no-mode, one-count, moved-none, moved-more, moved-still, moved-room, moved-low, moved-high, left-low, unit-room, unit-back}

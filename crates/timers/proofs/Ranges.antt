@@ -1,52 +1,42 @@
--- Step 2 keeps ranges: registers that are bytes stay bytes, TMOD and the due marks stay, and each overflow is 0 or 1,
--- by cases on what counts.
+-- Step 2 keeps ranges: registers that are bytes stay bytes, TMOD and the due marks stay, by cases on what counts.
 use mathlib.Core.Bool.{cond}
-use Prim.Native.Nat.{ℕ, _<_, _≤_}
+use Prim.Native.Nat.{ℕ, _<_}
 use native.Mathlib.Omega.{arith}
 use lib.Dec.{eqb}
 use Rattle.laws.specs.Ranges.{TimersOk}
-use Rattle.laws.proofs.Choices.{chosen}
+use Rattle.machine.proofs.Choices.{chosen}
+use Rattle.machine.proofs.Counting.{next-lt, nextOr-lt}
 use Rattle.laws.proofs.Bits.{flagged-lt}
-use Rattle.laws.proofs.Counting.{next-lt, overflow-le, nextOr-lt}
-use Rattle.machine.specs.Counting.{pair13, pair16, count13, count16, reload8, count8, hold}
+use Rattle.machine.specs.Counting.{count13, count16, reload8, count8, hold}
 use Rattle.machine.specs.Timers.{timer0Mode, timer1Mode, countIn, flagged, counts0, counts1, countsHigh0, pair0, high0, highOverflow0, pair1, timerFlags, timersStep}
 use Rattle.machine.specs.declared.Count.{Count}
 use Rattle.machine.specs.declared.Timers.{Timers}
-use Rattle.machine.specs.declared.TimersCounted.{TimersCounted}
-
--- what step 2 leaves
-pub record Kept (r : TimersCounted) : Type 0 where
-  pub timers : TimersOk (r .timers)
-  pub low : r .overflow0 ≤ 1
-  pub high : r .«overflow_th0» ≤ 1
-  pub one : r .overflow1 ≤ 1
 
 -- a register pair after a count
 record Counted (n : Count) : Type 0 where
   tl : n .tl < 256
   th : n .th < 256
-  overflow : n .overflow ≤ 1
 
 module _ (tl th : ℕ) (l : tl < 256) (h : th < 256) where
   holding : Counted (hold tl th)
   unfolding hold
-  holding = record { tl = l; th = h; overflow = omega arith }
+  holding = record { tl = l; th = h }
 
   counting8 : Counted (count8 tl th)
   unfolding count8
-  counting8 = record { tl = next-lt 8 tl; th = h; overflow = overflow-le 8 tl l }
+  counting8 = record { tl = next-lt 8 tl; th = h }
 
   counting13 : Counted (count13 tl th)
   unfolding count13
-  counting13 = record { tl = omega arith; th = omega arith; overflow = overflow-le 13 (pair13 tl th) (omega arith) }
+  counting13 = record { tl = omega arith; th = omega arith }
 
   counting16 : Counted (count16 tl th)
   unfolding count16
-  counting16 = record { tl = omega arith; th = omega arith; overflow = overflow-le 16 (pair16 tl th) (omega arith) }
+  counting16 = record { tl = omega arith; th = omega arith }
 
   reloading : Counted (reload8 tl th)
   unfolding reload8
-  reloading = record { tl = nextOr-lt 8 th tl h; th = h; overflow = overflow-le 8 tl l }
+  reloading = record { tl = nextOr-lt 8 th tl h; th = h }
 
   counting : (mode : ℕ) (three : Count) → Counted three → Counted (countIn mode three tl th)
   unfolding countIn
@@ -76,34 +66,24 @@ module _ (t : Timers) (b : TimersOk t) where
   unfolding high0
   high-below th h = chosen (λ (n : ℕ). n < 256) (countsHigh0 t) _ _ (next-lt 8 th) h
 
-  high-overflow : (th : ℕ) → th < 256 → highOverflow0 t th ≤ 1
-  unfolding highOverflow0
-  high-overflow th h = chosen (λ (n : ℕ). n ≤ 1) (countsHigh0 t) _ _ (overflow-le 8 th h) (omega arith)
-
   flags-below : (low high one : ℕ) → timerFlags t low high one < 256
   unfolding timerFlags
   flags-below low high one =
       flagged-lt 8 7 (cond (eqb (timer0Mode t) 3) high one) (flagged 5 low (t .tcon)) (omega arith)
       (flagged-lt 8 5 low (t .tcon) (omega arith) (b .tcon))
 
-  pub step-kept : (pins : ℕ) → Kept (timersStep t pins)
+  pub step-kept : (pins : ℕ) → TimersOk (timersStep t pins .timers)
   unfolding timersStep
   step-kept pins =
       let low = pair0-counted pins in
       let one = pair1-counted pins in
       record {
-        timers =
-            record {
-              tcon = flags-below (pair0 t pins .overflow) (highOverflow0 t (pair0 t pins .th)) (pair1 t pins .overflow);
-              tmod = b .tmod;
-              tl0 = low .tl;
-              tl1 = one .tl;
-              th0 = high-below (pair0 t pins .th) (low .th);
-              th1 = one .th;
-              due0 = b .due0;
-              due1 = b .due1;
-            };
-        low = low .overflow;
-        high = high-overflow (pair0 t pins .th) (low .th);
-        one = one .overflow;
+        tcon = flags-below (pair0 t pins .overflow) (highOverflow0 t (pair0 t pins .th)) (pair1 t pins .overflow);
+        tmod = b .tmod;
+        tl0 = low .tl;
+        tl1 = one .tl;
+        th0 = high-below (pair0 t pins .th) (low .th);
+        th1 = one .th;
+        due0 = b .due0;
+        due1 = b .due1;
       }

@@ -2,9 +2,7 @@
 ghost use mathlib.Core.Path.{_≡_};
 ghost use mathlib.Core.Bool.{true};
 ghost use Rattle.machine.specs.Record.{accepted};
-ghost use Rattle.machine.specs.Calls.{entryPins, entryCycles, entryFault, traceFault};
-ghost use Rattle.traces.specs.Traced.{Traced};
-use jump::Ran;
+ghost use Rattle.machine.specs.Calls.{entryPins, entryCycles, entryFault, traceFault, traceCycles};
 use machine::Device;
 use machine::MOST_ENTRIES;
 use machine::refusals::BAD_PINS;
@@ -55,27 +53,17 @@ pub fn trace_fault(entries: &[u32]) -> u8
 }
 
 // The cycles of each entry in turn, with its pin byte as it is given.
-pub fn run_entries(d: Device, entries: &[u32]) -> Ran
+pub fn run_entries(d: Device, entries: &[u32]) -> Device
     requires { ⌜ accepted d ≡ true ⌝ }
-    ensures { λ r. ⌜ Traced (now (entries .entry)) d r ⌝ }
+    ensures { λ r. ⌜ r ≡ traceCycles (now (entries .entry)) d ⌝ }
 {
     let mut at = d;
     let mut i = 0;
     while i < entries.len() {
         let e = entries[i];
         let pins = cycle::pins_of(at.kind, entry_pins(e));
-        let a = jump::advance(at, pins, entry_cycles(e));
-        if a.twice {
-            return Ran {
-                twice: true,
-                device: d,
-            };
-        }
-        at = a.device;
+        at = jump::advance(at, pins, entry_cycles(e));
         i += 1;
     }
-    Ran {
-        twice: false,
-        device: at,
-    }
+    at
 }

@@ -3,6 +3,7 @@
 use c51::Device;
 use c51model::model;
 use compare::record::of_model;
+use compare::STAGE;
 use station::chip::{Chip, PASSES};
 use std::cell::Cell;
 
@@ -19,6 +20,7 @@ fn byte(vector: u16) -> u8 {
 
 impl Chip for Plain {
     fn reset() -> Plain {
+        model::set_stage(STAGE);
         Plain { device: model::Device::reset(52).0, ahead: Cell::new(None) }
     }
 
@@ -39,7 +41,9 @@ impl Chip for Plain {
     fn jump(&mut self, pins: u8, n: u64) {
         match self.ahead.take() {
             Some((held, stepped, device)) if (held, stepped) == (pins, n) => self.device = device,
-            _ => self.device.jump(pins, n).expect(PASSES),
+            _ => {
+                self.device.jump(pins, n).expect(PASSES);
+            }
         }
     }
 

@@ -87,7 +87,8 @@ pub mod call {
     pub const RETURN: u64 = 9;
 }
 
-/// Why a call was refused; the number is the library's code.
+/// Why a call was refused; the number is the library's code. Code 9 is retired and is not used again: it stood for a serial counter
+/// that rolls over twice in one cycle, which is proved never to happen.
 #[derive(Clone, Copy, PartialEq, Eq, Hash, Debug)]
 #[repr(u8)]
 pub enum Refusal {
@@ -99,12 +100,11 @@ pub enum Refusal {
     NothingOffered = 6,
     NothingInService = 7,
     EmptyEntry = 8,
-    RolledTwice = 9,
 }
 
 impl Refusal {
     /// Every refusal, in the order of the codes.
-    pub const ALL: [Refusal; 9] = [
+    pub const ALL: [Refusal; 8] = [
         Refusal::BadRecord,
         Refusal::BadKind,
         Refusal::BadAddress,
@@ -113,7 +113,6 @@ impl Refusal {
         Refusal::NothingOffered,
         Refusal::NothingInService,
         Refusal::EmptyEntry,
-        Refusal::RolledTwice,
     ];
 
     /// The library's code.
@@ -138,7 +137,6 @@ impl std::fmt::Display for Refusal {
             Refusal::NothingOffered => "no interrupt is offered",
             Refusal::NothingInService => "no interrupt is in service",
             Refusal::EmptyEntry => "a trace entry has no cycles",
-            Refusal::RolledTwice => "a serial counter rolled over twice in one cycle",
         })
     }
 }

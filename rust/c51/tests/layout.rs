@@ -84,7 +84,6 @@ fn constants() -> Vec<Constant> {
         ("C51_NOTHING_OFFERED", Refusal::NothingOffered as u64),
         ("C51_NOTHING_IN_SERVICE", Refusal::NothingInService as u64),
         ("C51_EMPTY_ENTRY", Refusal::EmptyEntry as u64),
-        ("C51_ROLLED_TWICE", Refusal::RolledTwice as u64),
         ("C51_MAX_CYCLES", MAX_CYCLES),
         ("C51_MAX_TRACE", MAX_TRACE as u64),
         ("C51_PINS_HIGH", PINS_HIGH.into()),

@@ -1,6 +1,6 @@
 //! Fresh random records of any content and random lists of calls, beside those of the model's generator.
-use crate::entry;
 use crate::pair::{Pair, Tally};
+use crate::{entry, STAGE};
 use c51::{address, Device, Timer2, MAX_CYCLES, PINS_HIGH};
 use random::Rng;
 use replay::calls::{Call, Request};
@@ -8,20 +8,25 @@ use replay::record::FIELDS;
 use std::path::Path;
 use std::process::Command;
 
-/// The styles of the model's generator.
-pub const STYLES: [&str; 12] =
-    ["timers", "serial0", "serial1", "serial2", "serial3", "t2baud", "interrupts", "raw", "bad", "rest", "long", "mixed"];
-
-/// A script of the model's generator, which stands at `generator`.
-pub fn script(generator: &Path, seed: u64, lines: u64, style: &str) -> Result<String, String> {
-    let ran = Command::new(generator)
-        .args([seed.to_string(), lines.to_string(), style.to_string()])
-        .output()
-        .map_err(|why| format!("{}: {why}", generator.display()))?;
+/// What a program writes.
+fn written(program: &mut Command) -> Result<String, String> {
+    let ran = program.output().map_err(|why| format!("{program:?}: {why}"))?;
     if !ran.status.success() {
-        return Err(format!("gen {seed} {lines} {style}: {}", String::from_utf8_lossy(&ran.stderr)));
+        return Err(format!("{program:?}: {}", String::from_utf8_lossy(&ran.stderr)));
     }
     String::from_utf8(ran.stdout).map_err(|why| why.to_string())
+}
+
+/// The styles that the model's generator has at our stage.
+pub fn styles() -> Result<Vec<String>, String> {
+    let list = concat!(env!("CARGO_MANIFEST_DIR"), "/../../model/styles.sh");
+    let names = written(Command::new("sh").args([list, &STAGE.to_string()]))?;
+    Ok(names.split_whitespace().map(str::to_string).collect())
+}
+
+/// A script of the model's generator, which stands at `generator`, for our stage.
+pub fn script(generator: &Path, seed: u64, lines: u64, style: &str) -> Result<String, String> {
+    written(Command::new(generator).args([&seed.to_string(), &lines.to_string(), style, &STAGE.to_string()]))
 }
 
 /// The addresses of the registers.

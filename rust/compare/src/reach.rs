@@ -1,10 +1,10 @@
 //! The reach of the comparison. A chip rests under a pin byte where no timer counts, no frame is under way and the cycle number alone
 //! moves; both cross that at once. Before it the model steps every cycle, and the library makes a round of every cycle with an overflow
 //! or of a frame, also of one that waits on a stopped clock. A call of very many such cycles is run over fewer, on both.
-use crate::entry;
+use crate::{entry, STAGE};
 use c51::{MAX_CYCLES, MAX_TRACE};
-use c51model::model::{entry_cycles, entry_pins, Device};
-use c51model::script;
+use c51model::model::{entry_cycles, entry_pins, set_stage, Device};
+use c51model::script::{run_line, World};
 use replay::calls::{Call, Request};
 use replay::lines;
 
@@ -90,15 +90,16 @@ pub fn shortened(device: &Device, request: &Request) -> Option<Request> {
 
 /// A call script with the calls shortened that are out of reach. Every other line stays as it is, also one that is a fault.
 pub fn script_in_reach(text: &str) -> String {
-    let mut device = Device::zero();
+    set_stage(STAGE);
+    let mut world = World::new();
     let mut within = String::with_capacity(text.len());
     for whole in text.split_inclusive('\n') {
         let line = whole.strip_suffix('\n').unwrap_or(whole);
         let request = lines::request(line.as_bytes());
-        let shorter = request.and_then(|request| shortened(&device, &request)).map(|shorter| shorter.to_string());
+        let shorter = request.and_then(|request| shortened(&world.device, &request)).map(|shorter| shorter.to_string());
         let chosen = shorter.as_deref().unwrap_or(line);
         // a fault leaves the device
-        let _ = script::run_line(&mut device, chosen);
+        let _ = run_line(&mut world, chosen);
         within += chosen;
         within += &whole[line.len()..];
     }

@@ -1,10 +1,10 @@
 //! A fixed number of lists and raw records of fixed seeds, and that the comparison finds what it must.
 use c51::{call, Device, ANSWER_WORDS, MAX_CYCLES, PINS_HIGH};
 use c51model::script;
-use compare::entry;
-use compare::lists::{raw_record, run_list, run_record, script, STYLES};
+use compare::lists::{raw_record, run_list, run_record, script, styles};
 use compare::pair::{Pair, Tally};
 use compare::record::{of_model, to_model};
+use compare::{entry, STAGE};
 use random::Rng;
 use replay::calls::{Call, Request};
 use replay::record::{numbers, NUMBERS};
@@ -19,14 +19,15 @@ const RECORDS: u64 = 100_000;
 #[test]
 fn scripts_of_the_model() {
     let mut total = Tally::default();
-    for style in STYLES {
+    let styles = styles().unwrap();
+    for style in &styles {
         for seed in 1..=SCRIPTS_OF_A_STYLE {
             let text = script(Path::new(env!("CARGO_BIN_EXE_gen")), seed, LINES, style).unwrap();
             assert_eq!(text.lines().count() as u64, LINES);
-            total += Pair::default().run_script(&text).unwrap_or_else(|what| panic!("gen {seed} {LINES} {style}: {what}"));
+            total += Pair::default().run_script(&text).unwrap_or_else(|what| panic!("gen {seed} {LINES} {style} {STAGE}: {what}"));
         }
     }
-    assert_eq!(total.calls, STYLES.len() as u64 * SCRIPTS_OF_A_STYLE * LINES);
+    assert_eq!(total.calls, styles.len() as u64 * SCRIPTS_OF_A_STYLE * LINES);
     assert!(total.cycles > 1_000_000, "{total:?}");
 }
 
@@ -129,7 +130,9 @@ fn any_cut_ends_alike() {
         run_trace(&mut traced, &list);
         run_mixed(&mut mixed, &list, rng);
         let mut model = to_model(&device);
-        list.iter().for_each(|stretch| model.jump(stretch.pins, stretch.cycles).unwrap());
+        for stretch in &list {
+            model.jump(stretch.pins, stretch.cycles).unwrap();
+        }
         for (way, ended) in [("single cycles", cycled), ("jumps", jumped), ("a trace", traced), ("a mix", mixed)] {
             assert_eq!(ended, of_model(&model), "record {seed}, {way}: {list:?}");
         }
@@ -196,7 +199,8 @@ fn a_difference_in_any_field_is_found() {
         let library = raw_record(&mut rng);
         let mut numbers = numbers(&library);
         numbers[number] ^= 1;
-        let mut pair = Pair { library, model: script::raw_record(&numbers).unwrap() };
+        let mut pair = Pair::of_record(library);
+        pair.model = script::raw_record(&numbers).unwrap();
         let text = pair.run([Request::Dump]).unwrap_err();
         assert!(text.contains(&format!("{}\nD\n", Request::Put(Box::new(library)))), "{text}");
     }

@@ -63,7 +63,7 @@ mod tests {
     #[test]
     fn refused() {
         for call in [call::RESET, call::WRITE, call::JUMP, call::TRACE, call::RETURN] {
-            assert_eq!(text(call, [9, 0, 0]), "9 0\n");
+            assert_eq!(text(call, [8, 0, 0]), "8 0\n");
         }
         for call in [call::READ, call::CYCLE, call::LOOK, call::OFFER, call::TAKE] {
             assert_eq!(text(call, [255, 1, 0]), "255 0\n");

@@ -1,9 +1,8 @@
 -- `cycle` is the machine's answer: the cycle by the contract of `cycle_once`, the line of a device that stays accepted.
-use mathlib.Core.Path.{sym, _∙_}
 use Rattle.machine.specs.Calls.{cycleAnswer}
 use Rattle.machine.specs.Cycle.{cycleOf}
 use Rattle.cycle.proofs.Keeps.{cycle-accepted, sends-within}
-use Rattle.cycle.proofs.Steps.{once-refused, once-reaches}
+use Rattle.cycle.proofs.Steps.{cycle-reaches}
 use borrow.Author.Needs.{needs}
 use Rattle.laws.proofs.Guards.{yes, no}
 use Rattle.c51_run.proofs.cycle.Statement.{statement}
@@ -22,36 +21,23 @@ returns-2 c =
 cycle-once-requires : tie.Need-cycle-once-requires
 cycle-once-requires c κs = let p = c .before .before in yes (p .before .before .accepts .ensures) (p .before .if1 .left)
 
+passed-cycle-requires : tie.Need-passed-cycle-requires
+passed-cycle-requires c κs =
+    let l = c .before in
+    let p = l .before .before in
+    let x = p .before .before .before .args in
+    let ok = yes (p .before .before .accepts .ensures) (p .before .if1 .left) in
+    rw (cycle-reaches (x .pins) (x .d) (l .pins-of .ensures) (c .cycle-once .ensures)) (sends-within (cycleOf (x .pins) (x .d)) (cycle-accepted (x .pins) (x .d) ok))
+
 returns-3 : tie.Need-returns-3
 unfolding cycleAnswer
 returns-3 c =
-    let o = c .before .before in
-    let l = o .before in
-    let p = l .before .before in
-    let x = p .before .before .before .args in
-    let refused = once-refused (x .pins) (x .d) (l .pins-of .ensures) (o .cycle-once .ensures) in
-    rw (yes (p .before .before .accepts .ensures) (p .before .if1 .left), yes (p .pins-ok .ensures) (l .before .if2 .left), sym refused ∙ c .before .if3 .taken) (c .refuse-cycle3 .ensures)
-
-passed-cycle-requires : tie.Need-passed-cycle-requires
-passed-cycle-requires c κs =
     let o = c .before in
     let l = o .before in
     let p = l .before .before in
     let x = p .before .before .before .args in
-    let ok = yes (p .before .before .accepts .ensures) (p .before .if1 .left) in
-    rw (once-reaches (x .pins) (x .d) (l .pins-of .ensures) (o .cycle-once .ensures)) (sends-within (cycleOf (x .pins) (x .d)) (cycle-accepted (x .pins) (x .d) ok))
-
-returns-4 : tie.Need-returns-4
-unfolding cycleAnswer
-returns-4 c =
-    let t = c .before in
-    let o = t .before in
-    let l = o .before in
-    let p = l .before .before in
-    let x = p .before .before .before .args in
-    let refused = once-refused (x .pins) (x .d) (l .pins-of .ensures) (o .cycle-once .ensures) in
-    let reaches = once-reaches (x .pins) (x .d) (l .pins-of .ensures) (o .cycle-once .ensures) in
-    rw (yes (p .before .before .accepts .ensures) (p .before .if1 .left), yes (p .pins-ok .ensures) (l .before .if2 .left), sym refused ∙ t .if3 .left, ← reaches) (c .passed-cycle .ensures)
+    let reaches = cycle-reaches (x .pins) (x .d) (l .pins-of .ensures) (o .cycle-once .ensures) in
+    rw (yes (p .before .before .accepts .ensures) (p .before .if1 .left), yes (p .pins-ok .ensures) (l .before .if2 .left), ← reaches) (c .passed-cycle .ensures)
 
 pub cycle-spec : {M : Type 1} → statement M
 cycle-spec =
@@ -65,7 +51,5 @@ cycle-spec =
     returns-2
     (search needs)
     cycle-once-requires
-    (search needs)
-    returns-3
     passed-cycle-requires
-    returns-4)
+    returns-3)

@@ -1,8 +1,7 @@
 -- A jump answers what the plain machine answers: the refusals in the table's order, then the cycles of the run.
-use mathlib.Core.Path.{sym, _∙_}
 use borrow.Author.Tests.{le-leb, lt-leb}
 use Rattle.machine.specs.Calls.{jumpAnswer}
-use Rattle.jump.proofs.Taken.{ready-taken, advanced-taken}
+use Rattle.jump.proofs.Taken.{ready-taken, run-taken}
 use borrow.Author.Needs.{needs}
 use Rattle.laws.proofs.Guards.{yes, no}
 use Rattle.c51_run.proofs.jump.Statement.{statement}
@@ -35,25 +34,13 @@ advance-requires c κs =
 returns-4 : tie.Need-returns-4
 unfolding jumpAnswer
 returns-4 c =
-    let r = c .before .before in
+    let r = c .before in
     let l = r .before in
     let n = l .before in
     let p = n .before .before in
     let x = p .before .before .before .args in
-    let ran = advanced-taken (x .pins) (x .d) (l .pins-of .ensures) (r .advance .ensures) in
-    rw (yes (p .before .before .accepts .ensures) (p .before .if1 .left), yes (p .pins-ok .ensures) (n .before .if2 .left), le-leb _ _ (n .if3 .left), sym (ran .refused) ∙ c .before .if4 .taken) (c .refuse-run4 .ensures)
-
-returns-5 : tie.Need-returns-5
-unfolding jumpAnswer
-returns-5 c =
-    let t = c .before in
-    let r = t .before in
-    let l = r .before in
-    let n = l .before in
-    let p = n .before .before in
-    let x = p .before .before .before .args in
-    let ran = advanced-taken (x .pins) (x .d) (l .pins-of .ensures) (r .advance .ensures) in
-    rw (yes (p .before .before .accepts .ensures) (p .before .if1 .left), yes (p .pins-ok .ensures) (n .before .if2 .left), le-leb _ _ (n .if3 .left), sym (ran .refused) ∙ t .if4 .left, ← ran .reaches (t .if4 .left)) (c .passed-run .ensures)
+    let ran = run-taken (x .pins) (x .d) (l .pins-of .ensures) (x .n) (r .advance .ensures) in
+    rw (yes (p .before .before .accepts .ensures) (p .before .if1 .left), yes (p .pins-ok .ensures) (n .before .if2 .left), le-leb _ _ (n .if3 .left), ← ran) (c .passed-run .ensures)
 
 pub jump-spec : {M : Type 1} → statement M
 jump-spec =
@@ -70,6 +57,4 @@ jump-spec =
     (search needs)
     advance-requires
     (search needs)
-    returns-4
-    (search needs)
-    returns-5)
+    returns-4)

@@ -1,9 +1,7 @@
--- A look ahead answers what the plain machine answers: no cycle of an accepted device is refused by 9, so that the first rise is the
--- answer.
+-- A look ahead answers what the plain machine answers: the refusals in the table's order, then the first rise.
 use borrow.Author.Tests.{le-leb, lt-leb}
 use Rattle.machine.specs.Calls.{lookAnswer}
 use Rattle.machine.specs.Lists.{play, replyOfLook}
-use Rattle.jump.proofs.Keeps.{none-refused9}
 use Rattle.jump.proofs.Taken.{ready-taken, look-taken}
 use borrow.Author.Needs.{needs}
 use Rattle.laws.proofs.Guards.{yes, no, told}
@@ -42,7 +40,7 @@ returns-4 c =
     let x = p .before .before .before .args in
     let ok = yes (p .before .before .accepts .ensures) (p .before .if1 .left) in
     let first = look-taken (x .pins) (x .d) (l .pins-of .ensures) 0 (x .n) (c .first-rise .ensures) in
-    told replyOfLook (rw (ok, yes (p .pins-ok .ensures) (n .before .if2 .left), le-leb _ _ (n .if3 .left), none-refused9 (x .n) (x .pins) (x .d) ok) first)
+    told replyOfLook (rw (ok, yes (p .pins-ok .ensures) (n .before .if2 .left), le-leb _ _ (n .if3 .left)) first)
 
 pub look-spec : {M : Type 1} → statement M
 look-spec =

@@ -24,17 +24,9 @@ run-entries-requires c κs = let f = c .before in yes (f .before .before .accept
 returns-3 : tie.Need-returns-3
 unfolding traceAnswer
 returns-3 c =
-    let r = c .before .before in
+    let r = c .before in
     let f = r .before .before in
-    rw (yes (f .before .before .accepts .ensures) (f .before .if1 .left), eq-eqb _ _ (sym (f .trace-fault .ensures) ∙ r .before .if2 .left), sym (r .run-entries .ensures .refused) ∙ c .before .if3 .taken) (c .refuse-run3 .ensures)
-
-returns-4 : tie.Need-returns-4
-unfolding traceAnswer
-returns-4 c =
-    let t = c .before .if3 .left in
-    let r = c .before .before in
-    let f = r .before .before in
-    rw (yes (f .before .before .accepts .ensures) (f .before .if1 .left), eq-eqb _ _ (sym (f .trace-fault .ensures) ∙ r .before .if2 .left), sym (r .run-entries .ensures .refused) ∙ t, ← r .run-entries .ensures .reaches t) (c .passed-run .ensures)
+    rw (yes (f .before .before .accepts .ensures) (f .before .if1 .left), eq-eqb _ _ (sym (f .trace-fault .ensures) ∙ r .before .if2 .left), ← r .run-entries .ensures) (c .passed-run .ensures)
 
 pub trace-spec : {M : Type 1} → statement M
 trace-spec =
@@ -48,6 +40,4 @@ trace-spec =
     returns-2
     run-entries-requires
     (search needs)
-    returns-3
-    (search needs)
-    returns-4)
+    returns-3)

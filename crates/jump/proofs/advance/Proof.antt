@@ -1,23 +1,21 @@
--- Round by round: the cycles that are left, from the device reached, end where all of them end, and no round is refused.
+-- Round by round: the cycles that are left, from the device reached, end where all of them end.
 use mathlib.Core.Path.{_≡_, refl, sym, _∙_}
 use Prim.Native.Nat.{_≤_}
 use native.Mathlib.Omega.{arith}
 use Rattle.machine.specs.Cycle.{cycles}
-use Rattle.laws.proofs.Choices.{clash}
 use Rattle.strides.proofs.Runs.{cycles-none}
 use borrow.Author.Needs.{needs}
 use Rattle.jump.specs.Rounds.{Ready}
-use Rattle.jump.proofs.Keeps.{none-refused9}
 use Rattle.jump.proofs.Idles.{idle-on}
-use Rattle.jump.proofs.Rounds.{quiet-on, round-used, round-ready, round-passes, round-on}
+use Rattle.jump.proofs.Rounds.{quiet-on, round-used, round-ready, round-on}
 use Rattle.jump.proofs.advance.Statement.{statement}
 use Rattle.jump.proofs.advance.Tie as tie
 
 abbrev Inv-loop : tie.InvT-loop
-Inv-loop d pins n at₀ left₀ at left = Ready pins at × (left ≤ n) × (cycles left pins at ≡ cycles n pins d)
+Inv-loop pins n at₀ left₀ at left = Ready pins at × (left ≤ n) × (cycles left pins at ≡ cycles n pins at₀)
 
 abbrev μ-loop : tie.MeasureT-loop
-μ-loop d pins n at₀ left₀ at left = left
+μ-loop pins n at₀ left₀ at left = left
 
 loop-holds : tie.Need-loop-holds Inv-loop μ-loop
 loop-holds c = (c .pre .0, omega arith, refl)
@@ -29,11 +27,7 @@ returns : tie.Need-returns Inv-loop μ-loop
 returns c =
     let q = c .before .before in
     let w = q .before .before .before in
-    let a = w .before in
-    record {
-      refused = sym (none-refused9 (a .args .n) (a .args .pins) (a .args .d) (a .pre .0 .good));
-      reaches = λ e. idle-on (a .args .pins) (w .loop .at) (w .loop .inv .0) (q .idles .ensures) (c .before .if1 .taken) (w .loop .left) (c .idle .ensures) (w .loop .inv .2);
-    }
+    idle-on (w .before .args .pins) (w .loop .at) (w .loop .inv .0) (q .idles .ensures) (c .before .if1 .taken) (w .loop .left) (c .idle .ensures) (w .loop .inv .2)
 
 stride-requires : tie.Need-stride-requires Inv-loop μ-loop
 stride-requires c κs = omega (arith, c .before .before .before .before .ahead .ensures .1)
@@ -42,45 +36,30 @@ returns-2 : tie.Need-returns-2 Inv-loop μ-loop
 returns-2 c =
     let h = c .before .before .before .before .before in
     let w = h .before .before in
-    let a = w .before in
-    record {
-      refused = sym (none-refused9 (a .args .n) (a .args .pins) (a .args .d) (a .pre .0 .good));
-      reaches = λ e. quiet-on (a .args .pins) (w .loop .left) (w .loop .at) (w .loop .inv .0) (h .ahead .ensures .1) (c .before .if2 .taken) (c .stride .ensures) (w .loop .inv .2);
-    }
+    quiet-on (w .before .args .pins) (w .loop .left) (w .loop .at) (w .loop .inv .0) (h .ahead .ensures .1) (c .before .if2 .taken) (c .stride .ensures) (w .loop .inv .2)
 
 one-round-requires : tie.Need-one-round-requires Inv-loop μ-loop
 one-round-requires c κs =
     let h = c .before .before .before .before in
     (h .before .before .loop .inv .0, omega arith, omega arith, h .ahead .ensures .1)
 
-returns-3 : tie.Need-returns-3 Inv-loop μ-loop
-returns-3 c = let r = c .before .one-round .ensures in
-    absurd (clash (c .if3 .taken) (round-passes _ _ _ r (omega arith) (c .before .before .before .before .before .before .before .before .loop .inv .0 .good)))
-
 sub-left : tie.Need-sub-left Inv-loop μ-loop
-sub-left c = round-used _ _ _ (c .before .before .before .one-round .ensures) (omega arith) .1
+sub-left c = round-used _ _ _ (c .before .before .one-round .ensures) (omega arith) .1
 
 loop-less : tie.Need-loop-less Inv-loop μ-loop
-loop-less c =
-    let o = c .before .before .before in
-    omega (arith, round-used _ _ _ (o .one-round .ensures) (omega arith))
+loop-less c = omega (arith, round-used _ _ _ (c .before .before .one-round .ensures) (omega arith))
 
 loop-again : tie.Need-loop-again Inv-loop μ-loop
 loop-again c =
-    let r = c .before .before .before in
+    let r = c .before .before in
     let i = r .before .before .before .before .before .before .before .loop .inv in
     (round-ready _ _ _ (r .one-round .ensures) (omega arith) (i .0), omega arith, round-on _ _ _ (r .one-round .ensures) (omega arith) (i .2))
 
-returns-4 : tie.Need-returns-4 Inv-loop μ-loop
-returns-4 c = let i = c .before .loop .inv in
-    let a = c .before .before in
-    record {
-      refused = sym (none-refused9 (a .args .n) (a .args .pins) (a .args .d) (a .pre .0 .good));
-      reaches = λ e. sym (cycles-none _ _ _ (c .loop-test .left)) ∙ i .2;
-    }
+returns-3 : tie.Need-returns-3 Inv-loop μ-loop
+returns-3 c = sym (cycles-none _ _ _ (c .loop-test .left)) ∙ c .before .loop .inv .2
 
 pub advance-spec : {M : Type 1} → statement M
 advance-spec =
     tie.close
     (tie.spec Inv-loop μ-loop loop-holds (search needs) idles-requires (search needs) returns stride-requires returns-2
-    one-round-requires returns-3 sub-left loop-less loop-again returns-4)
+    one-round-requires sub-left loop-less loop-again returns-3)

@@ -1,4 +1,4 @@
--- A round has its cycles, reaches where they end and says whether one is refused: by the laws of rounds, both ways.
+-- A round has its cycles and reaches where they end: by the laws of rounds, both ways.
 use mathlib.Core.Path.{sym, _∙_}
 use native.Mathlib.Omega.{arith}
 use Rattle.jump.proofs.Rounds.{room-is, stride-is, round-busy, round-quiet}
@@ -8,11 +8,11 @@ use Rattle.jump.proofs.one_round.Tie as tie
 
 returns : tie.Need-returns
 returns c =
-    let t = c .before .before in
+    let t = c .before in
     let s = t .before in
     let a = s .args in
     let y = s .pre .0 in
-    round-busy (a .pins) (a .left) (a .d) y (c .before .cycle-once .ensures)
+    round-busy (a .pins) (a .left) (a .d) y (c .cycle-once .ensures)
     (sym (room-is (a .pins) (a .d) y (s .pre .3)) ∙ t .if1 .taken)
 
 returns-2 : tie.Need-returns-2

@@ -5,7 +5,7 @@ use Prim.Native.Nat.{ℕ}
 use lib.Dec.{eqb}
 use Rattle.machine.specs.Record.{serialMode}
 use Rattle.machine.specs.Serial.{withReceive, receiveAt, receiveBit}
-use Rattle.laws.proofs.Choices.{cond-ap}
+use Rattle.machine.proofs.Choices.{cond-ap}
 use Rattle.receiver.proofs.Receiving.{done-rests}
 use borrow.Author.Needs.{needs}
 use Rattle.receiver.proofs.receive_bit.Statement.{statement}

@@ -4,7 +4,7 @@ use Prim.Native.Nat.{ℕ}
 use mathlib.Core.Bool.{not}
 use lib.Dec.{eqb}
 use borrow.Author.Tests.{eqb-true, not-true}
-use Rattle.laws.proofs.Choices.{and-left, and-right}
+use Rattle.machine.proofs.Choices.{and-left, and-right}
 use Rattle.receiver.proofs.Quiet.{sampled, rest-receive-ticks}
 use borrow.Author.Needs.{needs}
 use Rattle.receiver.proofs.receive_ticks.Statement.{statement}

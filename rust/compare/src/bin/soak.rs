@@ -1,6 +1,7 @@
 //! The soak: random lists and raw records through the library and the model for as long as wanted.
-use compare::lists::{run_list, run_record, script, STYLES};
+use compare::lists::{run_list, run_record, script, styles};
 use compare::pair::{Pair, Tally};
+use compare::STAGE;
 use random::Rng;
 use std::path::PathBuf;
 use std::process::exit;
@@ -72,13 +73,14 @@ impl Soak {
     /// Scripts of each style in turn, and fresh lists after each.
     fn run_lists(&mut self) -> Result<(), String> {
         let generator = generator();
+        let styles = styles()?;
         let mut number = 0;
         while self.lists.cycles < self.options.cycles {
-            let style = STYLES[(number % STYLES.len() as u64) as usize];
+            let style = &styles[(number % styles.len() as u64) as usize];
             let script_seed = Rng::part(self.options.seed, number).number() >> 1;
             let text = script(&generator, script_seed, LINES, style)?;
             let ran = Pair::default().run_script(&text);
-            self.lists += ran.map_err(|what| format!("gen {script_seed} {LINES} {style}: {what}"))?;
+            self.lists += ran.map_err(|what| format!("gen {script_seed} {LINES} {style} {STAGE}: {what}"))?;
             let mut rng = Rng::part(script_seed, 0);
             for _ in 0..LISTS_A_SCRIPT {
                 self.lists += run_list(&mut rng, LIST_LENGTH)?;

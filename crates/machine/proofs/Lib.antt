@@ -1,0 +1,5 @@
+pub mod Choices
+pub mod Accepted
+pub mod Counting
+pub mod Overflowing
+pub mod Rollovers
