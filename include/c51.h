@@ -5,9 +5,10 @@
  * devices run side by side and in any number of threads. Every call is answered for every content of the record and of its other
  * arguments; only a pointer has to point where its comment says.
  *
- * A call answers a code: 0, or the number of the refusal. The lowest number applies, except that in a trace 5 goes first after 1,
- * then the first bad entry, 4 before 8 within it. A refused call leaves the record as it was, and every other number of its answer
- * is 0. Each call but c51_reset and c51_accepts first judges the record, so that each of them may answer C51_BAD_RECORD.
+ * A call answers a code: 0, or the number of the refusal. The lowest number applies, with two exceptions: 10 goes after 1 and
+ * before 3, 6 and 7; and in a trace 5 goes first after 1, then the first bad entry, 4 before 8 within it. A refused call leaves the
+ * record as it was, and every other number of its answer is 0. Each call but c51_reset and c51_accepts first judges the record, so
+ * that each of them may answer C51_BAD_RECORD.
  */
 #ifndef C51_H
 #define C51_H
@@ -30,10 +31,11 @@ enum {
     C51_TOO_LONG = 5,           /* more than C51_MAX_CYCLES cycles, or a trace of more than C51_MAX_TRACE entries */
     C51_NOTHING_OFFERED = 6,    /* take with nothing offered */
     C51_NOTHING_IN_SERVICE = 7, /* return with nothing in service */
-    C51_EMPTY_ENTRY = 8         /* a trace entry of 0 cycles */
+    C51_EMPTY_ENTRY = 8,        /* a trace entry of 0 cycles */
+    C51_POWERED_DOWN = 10       /* write, take or return in power-down */
 };
 
-#define C51_MAX_CYCLES ((uint64_t)1 << 40) /* of one jump or look ahead */
+#define C51_MAX_CYCLES ((uint64_t)1 << 40) /* of one jump, look ahead or wake look */
 #define C51_MAX_TRACE 65536u               /* entries of one trace */
 
 /* The pin byte of a cycle: a bit for each pin, bit 7 is 0. Kind 51 takes T2 and T2EX as 1. */
@@ -66,6 +68,16 @@ enum {
     C51_RCAP2H = 0xCB,
     C51_TL2 = 0xCC,
     C51_TH2 = 0xCD
+};
+
+/* Bits of PCON. In idle the peripherals go on as before, and a take clears IDL. Power-down wins over idle and only reset ends it: a
+ * cycle, jump or trace run passes and alters nothing, not even the cycle number (a cycle answers the line as the device stands);
+ * nothing is offered, look ahead and wake look find none, and write, take and return are refused by 10. The write that sets PD
+ * passes. */
+enum {
+    C51_PCON_IDL = 0x01, /* idle */
+    C51_PCON_PD = 0x02,  /* power-down */
+    C51_PCON_SMOD = 0x80 /* double baud rate */
 };
 
 /* ---------------------------------------------------------------- the record: each field with what an accepted record has in it */
@@ -130,7 +142,7 @@ typedef struct {
 /* The device record. */
 typedef struct {
     uint8_t kind; /* 51 or 52 */
-    uint8_t pcon; /* PCON, within 8F */
+    uint8_t pcon; /* PCON, within 8F; its bits are named above */
     c51_timers timers;
     c51_timer2 timer2;
     c51_serial serial;
@@ -175,7 +187,7 @@ typedef struct {
     uint8_t vector;
 } c51_offer_answer;
 
-/* A look ahead: found is 1 and at is the cycle, counted from 1; or both are 0. */
+/* A look ahead: found is 1 and at is the cycle, counted from 1; or both are 0. A wake look: the same, but at counts from 0. */
 typedef struct {
     uint8_t code;
     uint8_t found;
@@ -186,7 +198,7 @@ typedef struct {
  * The pointer is not NULL, is aligned as the type is, and nothing else reads or writes the device during the call. */
 
 /* Writes a register: its implemented bits are stored. SBUF starts a sending; SCON with another mode rests both positions, and in mode 0
- * with REN 1 and RI 0 it asks to receive. Refusals: 1, 3. */
+ * with REN 1 and RI 0 it asks to receive. Refusals: 1, 10, 3. */
 uint8_t c51_write(c51_device *device, uint8_t address, uint8_t value);
 
 /* One machine cycle. Refusals: 1, 4. */
@@ -201,11 +213,11 @@ uint8_t c51_jump(c51_device *device, uint8_t pins, uint64_t n);
  * Refusals: 1, 5, 4, 8. */
 uint8_t c51_trace(c51_device *device, const uint32_t *entries, size_t count);
 
-/* Takes the interrupt that is offered: its level is in service, its bit leaves seen and polled, and TF0, TF1 or an edge-triggered
- * IE0 or IE1 is cleared. Refusals: 1, 6. */
+/* Takes the interrupt that is offered: its level is in service, its bit leaves seen and polled, TF0, TF1 or an edge-triggered
+ * IE0 or IE1 is cleared, and so is IDL. Refusals: 1, 10, 6. */
 c51_vector_answer c51_take(c51_device *device);
 
-/* Return from interrupt: the high level leaves service, or else the low one. Refusals: 1, 7. */
+/* Return from interrupt: the high level leaves service, or else the low one. Refusals: 1, 10, 7. */
 uint8_t c51_return(c51_device *device);
 
 /* ---------------------------------------------------------------- calls by value: the device that is passed stays as it is */
@@ -223,6 +235,10 @@ c51_offer_answer c51_offer(c51_device device);
  * Refusals: 1, 4, 5. */
 c51_look_answer c51_look(c51_device device, uint8_t pins, uint64_t n);
 
+/* The wake look: the first k from 0 to n such that an interrupt is offered after k cycles with this pin byte, or none; 0 is the
+ * device as it stands. It does not ask for IDL. Refusals: 1, 4, 5. */
+c51_look_answer c51_wake(c51_device device, uint8_t pins, uint64_t n);
+
 /* 1 where the record is accepted, 0 where every call but reset refuses it by 1. */
 uint8_t c51_accepts(c51_device device);
 
@@ -230,21 +246,22 @@ uint8_t c51_accepts(c51_device device);
 
 #define C51_CALL_WORDS 3    /* a call: its number, and two arguments */
 #define C51_ANSWER_WORDS 3  /* an answer: its code, how many numbers it gives or C51_NONE, and the number or 0 */
-#define C51_NONE UINT64_MAX /* an offer or a look ahead that passed and found none */
+#define C51_NONE UINT64_MAX /* an offer, a look ahead or a wake look that passed and found none */
 
 /* The calls by number, each with its arguments and with the number that it gives, where it gives one. Of a kind, an
  * address, a value and a pin byte the low 8 bits count; an argument that a call does not have may be anything. */
 enum {
-    C51_CALL_RESET = 0, /* kind */
-    C51_CALL_READ = 1,  /* address; gives the register */
-    C51_CALL_WRITE = 2, /* address, value */
-    C51_CALL_CYCLE = 3, /* pins; gives the output line */
-    C51_CALL_JUMP = 4,  /* pins, n */
-    C51_CALL_TRACE = 5, /* start, end: entries[start] to entries[end - 1]; none where these are not in order or not in range */
-    C51_CALL_LOOK = 6,  /* pins, n; gives the cycle, or C51_NONE */
-    C51_CALL_OFFER = 7, /* gives the vector, or C51_NONE */
-    C51_CALL_TAKE = 8,  /* gives the vector */
-    C51_CALL_RETURN = 9 /* and so is every other number */
+    C51_CALL_RESET = 0,  /* kind */
+    C51_CALL_READ = 1,   /* address; gives the register */
+    C51_CALL_WRITE = 2,  /* address, value */
+    C51_CALL_CYCLE = 3,  /* pins; gives the output line */
+    C51_CALL_JUMP = 4,   /* pins, n */
+    C51_CALL_TRACE = 5,  /* start, end: entries[start] to entries[end - 1]; none where these are not in order or not in range */
+    C51_CALL_LOOK = 6,   /* pins, n; gives the cycle, or C51_NONE */
+    C51_CALL_OFFER = 7,  /* gives the vector, or C51_NONE */
+    C51_CALL_TAKE = 8,   /* gives the vector */
+    C51_CALL_RETURN = 9, /* and so is every number that is not in this list */
+    C51_CALL_WAKE = 10   /* pins, n; gives the k, or C51_NONE */
 };
 
 /* Runs calls one after the other, each on the device as the one before left it, and writes down the answer to each.

@@ -6,6 +6,7 @@ use Prim.Native.Nat.{ℕ, _<_}
 use Rattle.machine.proofs.Choices.{by-test}
 use Rattle.machine.specs.declared.Device.{Device}
 use Rattle.machine.specs.Registers.{lacks}
+use Rattle.machine.specs.Power.{poweredDown}
 use Rattle.machine.specs.Record.{accepted}
 use Rattle.machine.specs.Calls.{resetAnswer, writeAnswer}
 use Rattle.record.proofs.Accepted.{reset-accepted51, reset-accepted52}
@@ -24,4 +25,6 @@ module _ (d : Device) (a : accepted d ≡ true) where
   pub write-kept : (address v : ℕ) → v < 256 → accepted (writeAnswer d address v .device) ≡ true
   unfolding writeAnswer
   write-kept address v h =
-      rw a (by-test (lacks (d .kind) address) (λ lacking. rw lacking a) (λ there. rw there (write-accepted d address v h a)))
+      rw a
+      (by-test (poweredDown (d .pcon)) (λ down. rw down a)
+      (λ up. rw up (by-test (lacks (d .kind) address) (λ lacking. rw lacking a) (λ there. rw there (write-accepted d address v h a)))))

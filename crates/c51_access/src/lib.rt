@@ -11,6 +11,7 @@ use machine::Device;
 use machine::ReadAnswer;
 use machine::refusals::BAD_KIND;
 use machine::refusals::BAD_RECORD;
+use machine::refusals::POWERED_DOWN;
 use registers::Place;
 
 // Reset.
@@ -43,6 +44,9 @@ pub fn write(d: Device, address: u8, value: u8) -> Answer
 {
     if !record::accepts(d) {
         return refuse(BAD_RECORD, d);
+    }
+    if laws::powered_down(d.pcon) {
+        return refuse(POWERED_DOWN, d);
     }
     let place = registers::find(d.kind, address);
     match place {

@@ -10,10 +10,12 @@ use machine::Answer;
 use machine::Device;
 use machine::OfferAnswer;
 use machine::TakeAnswer;
+use machine::places::IDL;
 use machine::refusals::BAD_RECORD;
 use machine::refusals::NOTHING_IN_SERVICE;
 use machine::refusals::NOTHING_OFFERED;
 use machine::refusals::PASSED;
+use machine::refusals::POWERED_DOWN;
 
 // The vector offered, or nothing.
 pub fn offer(d: Device) -> OfferAnswer
@@ -22,21 +24,24 @@ pub fn offer(d: Device) -> OfferAnswer
     if !record::accepts(d) {
         return OfferAnswer::Refused(BAD_RECORD);
     }
-    let source = interrupts::offered(d.interrupts);
+    let source = interrupts::offered(d.pcon, d.interrupts);
     if source >= interrupts::NONE {
         return OfferAnswer::Nothing;
     }
     OfferAnswer::Vector(interrupts::vector_of(source))
 }
 
-// Take what is offered.
+// Take what is offered, which ends idle.
 pub fn take(d: Device) -> TakeAnswer
     ensures { λ r. ⌜ r ≡ Machine.takeAnswer d ⌝ }
 {
     if !record::accepts(d) {
         return refuse_take(BAD_RECORD, d);
     }
-    let source = interrupts::offered(d.interrupts);
+    if laws::powered_down(d.pcon) {
+        return refuse_take(POWERED_DOWN, d);
+    }
+    let source = interrupts::offered(d.pcon, d.interrupts);
     if source >= interrupts::NONE {
         return refuse_take(NOTHING_OFFERED, d);
     }
@@ -44,6 +49,7 @@ pub fn take(d: Device) -> TakeAnswer
     let i = interrupts::in_service(source, d.interrupts);
     let tcon = interrupts::taken(source, d.timers.tcon);
     let mut e = d;
+    e.pcon = d.pcon & !(1 << IDL);
     e.timers.tcon = tcon;
     e.interrupts = i;
     TakeAnswer {
@@ -59,6 +65,9 @@ pub fn reti(d: Device) -> Answer
 {
     if !record::accepts(d) {
         return refuse(BAD_RECORD, d);
+    }
+    if laws::powered_down(d.pcon) {
+        return refuse(POWERED_DOWN, d);
     }
     if interrupts::none_in_service(d.interrupts) {
         return refuse(NOTHING_IN_SERVICE, d);

@@ -9,7 +9,7 @@ use Rattle.machine.specs.declared.OfferAnswer.the-variants as Offer
 use Rattle.machine.specs.declared.LookAnswer.{LookAnswer}
 use Rattle.machine.specs.declared.LookAnswer.the-variants as Look
 use Rattle.machine.specs.Record.{accepted}
-use Rattle.machine.specs.Calls.{readAnswer, offerAnswer, lookAnswer}
+use Rattle.machine.specs.Calls.{readAnswer, offerAnswer, lookAnswer, wakeAnswer}
 use Rattle.c51_lent.specs.declared.ValueAnswer.{ValueAnswer}
 use Rattle.c51_lent.specs.declared.OfferedAnswer.{OfferedAnswer}
 use Rattle.c51_lent.specs.declared.LookedAnswer.{LookedAnswer}
@@ -39,6 +39,10 @@ lookedOf Look.Nothing = record { code = 0; found = 0; at = 0 }
 
 unfoldable pub lookedAnswer : Device → ℕ → ℕ → LookedAnswer
 lookedAnswer d pins n = lookedOf (lookAnswer d pins n)
+
+-- Wake look: the same
+unfoldable pub wokenAnswer : Device → ℕ → ℕ → LookedAnswer
+wokenAnswer d pins n = lookedOf (wakeAnswer d pins n)
 
 -- The record check: 1 where the record is accepted
 unfoldable pub acceptsAnswer : Device → ℕ

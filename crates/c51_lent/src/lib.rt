@@ -7,6 +7,7 @@ ghost use Rattle.lists.specs.Script.{script, Replayed};
 ghost use Rattle.c51_lent.specs.Answers as Numbers;
 use machine::Answer;
 use machine::Device;
+use machine::LookAnswer;
 
 // A cycle's code and the output line as it leaves it.
 #[repr(C)]
@@ -37,7 +38,8 @@ pub struct OfferedAnswer {
     pub vector: u8,
 }
 
-// A look ahead's code, 1 where a flag rises, and the cycle in which the first does.
+// A look's code, 1 where it finds what it looks for, and the cycle in which a flag first rises, or after which an interrupt is first
+// offered.
 #[repr(C)]
 pub struct LookedAnswer {
     pub code: u8,
@@ -45,7 +47,7 @@ pub struct LookedAnswer {
     pub at: u64,
 }
 
-// Write a register's implemented bits: 1, 3.
+// Write a register's implemented bits: 1, 10, 3.
 #[no_mangle]
 pub extern "C" fn c51_write(d: &mut Device, address: u8, value: u8) -> u8
     ensures { λ r. ⌜ (r ≡ Machine.writeAnswer (now (d .entry)) address value .code) × (now (d .exit) ≡ Machine.writeAnswer (now (d .entry)) address value .device) ⌝ }
@@ -55,7 +57,7 @@ pub extern "C" fn c51_write(d: &mut Device, address: u8, value: u8) -> u8
     written.code
 }
 
-// One machine cycle with a pin byte: 1, 4, 9.
+// One machine cycle with a pin byte: 1, 4.
 #[no_mangle]
 pub extern "C" fn c51_cycle(d: &mut Device, pins: u8) -> LineAnswer
     ensures { λ r. ⌜ (r .code ≡ Machine.cycleAnswer (now (d .entry)) pins .code) × ((r .line ≡ Machine.cycleAnswer (now (d .entry)) pins .line) × (now (d .exit) ≡ Machine.cycleAnswer (now (d .entry)) pins .device)) ⌝ }
@@ -68,7 +70,7 @@ pub extern "C" fn c51_cycle(d: &mut Device, pins: u8) -> LineAnswer
     }
 }
 
-// n cycles with one pin byte: 1, 4, 5, 9.
+// n cycles with one pin byte: 1, 4, 5.
 #[no_mangle]
 pub extern "C" fn c51_jump(d: &mut Device, pins: u8, n: u64) -> u8
     ensures { λ r. ⌜ (r ≡ Machine.jumpAnswer (now (d .entry)) pins n .code) × (now (d .exit) ≡ Machine.jumpAnswer (now (d .entry)) pins n .device) ⌝ }
@@ -78,7 +80,7 @@ pub extern "C" fn c51_jump(d: &mut Device, pins: u8, n: u64) -> u8
     jumped.code
 }
 
-// A trace run: 1, 5, 4, 8, 9.
+// A trace run: 1, 5, 4, 8.
 #[no_mangle]
 pub extern "C" fn c51_trace(d: &mut Device, entries: &[u32]) -> u8
     ensures { λ r. ⌜ (r ≡ Machine.traceAnswer (now (d .entry)) (now (entries .entry)) .code) × (now (d .exit) ≡ Machine.traceAnswer (now (d .entry)) (now (entries .entry)) .device) ⌝ }
@@ -88,7 +90,7 @@ pub extern "C" fn c51_trace(d: &mut Device, entries: &[u32]) -> u8
     ran.code
 }
 
-// Take what is offered: 1, 6.
+// Take what is offered: 1, 10, 6.
 #[no_mangle]
 pub extern "C" fn c51_take(d: &mut Device) -> VectorAnswer
     ensures { λ r. ⌜ (r .code ≡ Machine.takeAnswer (now (d .entry)) .code) × ((r .vector ≡ Machine.takeAnswer (now (d .entry)) .vector) × (now (d .exit) ≡ Machine.takeAnswer (now (d .entry)) .device)) ⌝ }
@@ -101,7 +103,7 @@ pub extern "C" fn c51_take(d: &mut Device) -> VectorAnswer
     }
 }
 
-// Return from an interrupt (RETI): 1, 7.
+// Return from an interrupt (RETI): 1, 10, 7.
 #[no_mangle]
 pub extern "C" fn c51_return(d: &mut Device) -> u8
     ensures { λ r. ⌜ (r ≡ Machine.returnAnswer (now (d .entry)) .code) × (now (d .exit) ≡ Machine.returnAnswer (now (d .entry)) .device) ⌝ }
@@ -165,29 +167,43 @@ pub extern "C" fn c51_offer(d: Device) -> OfferedAnswer
     }
 }
 
-// The first of n cycles with one pin byte in which a flag rises, or none: 1, 4, 5.
-#[no_mangle]
-pub extern "C" fn c51_look(d: Device, pins: u8, n: u64) -> LookedAnswer
-    ensures { λ r. ⌜ r ≡ Numbers.lookedAnswer d pins n ⌝ }
+// What a look answers.
+fn looked(a: LookAnswer) -> LookedAnswer
+    ensures { λ r. ⌜ r ≡ Numbers.lookedOf a ⌝ }
 {
-    let a = c51_run::look(d, pins, n);
     match a {
-        machine::LookAnswer::Refused(k) => LookedAnswer {
+        LookAnswer::Refused(k) => LookedAnswer {
             code: k,
             found: 0,
             at: 0,
         },
-        machine::LookAnswer::At(n) => LookedAnswer {
+        LookAnswer::At(n) => LookedAnswer {
             code: 0,
             found: 1,
             at: n,
         },
-        machine::LookAnswer::Nothing => LookedAnswer {
+        LookAnswer::Nothing => LookedAnswer {
             code: 0,
             found: 0,
             at: 0,
         },
     }
+}
+
+// The first of n cycles with one pin byte in which a flag rises, or none: 1, 4, 5.
+#[no_mangle]
+pub extern "C" fn c51_look(d: Device, pins: u8, n: u64) -> LookedAnswer
+    ensures { λ r. ⌜ r ≡ Numbers.lookedAnswer d pins n ⌝ }
+{
+    looked(c51_run::look(d, pins, n))
+}
+
+// The first k from 0 to n cycles with one pin byte after which an interrupt is offered, or none: 1, 4, 5.
+#[no_mangle]
+pub extern "C" fn c51_wake(d: Device, pins: u8, n: u64) -> LookedAnswer
+    ensures { λ r. ⌜ r ≡ Numbers.wokenAnswer d pins n ⌝ }
+{
+    looked(c51_run::wake(d, pins, n))
 }
 
 // 1 where the record is accepted.

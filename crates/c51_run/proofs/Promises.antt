@@ -8,13 +8,14 @@ use Rattle.machine.specs.declared.Device.{Device}
 use Rattle.machine.specs.declared.RunAnswer.{RunAnswer}
 use Rattle.machine.specs.declared.CycleAnswer.{CycleAnswer}
 use Rattle.machine.specs.declared.LookAnswer.{LookAnswer}
-use Rattle.machine.specs.Calls.{cycleAnswer, jumpAnswer, traceAnswer, lookAnswer}
+use Rattle.machine.specs.Calls.{cycleAnswer, jumpAnswer, traceAnswer, lookAnswer, wakeAnswer}
 use Rattle.machine.specs.Lists.{Call, play, replyOfRun, replyOfCycle, replyOfLook}
 use Rattle.laws.proofs.Guards.{told, Says}
 use Rattle.c51_run.proofs.cycle.Reads as cycle-reads
 use Rattle.c51_run.proofs.jump.Reads as jump-reads
 use Rattle.c51_run.proofs.trace.Reads as trace-reads
 use Rattle.c51_run.proofs.look.Reads as look-reads
+use Rattle.c51_run.proofs.wake.Reads as wake-reads
 
 module _ (d : Device) where
   pub cycle-promises : (pins : ℕ) (r : CycleAnswer) → cycle-reads.Learnt tt (d, (pins, tt)) r (d, (pins, tt))
@@ -35,3 +36,7 @@ module _ (d : Device) where
   pub look-promises : (pins n : ℕ) (r : LookAnswer) → look-reads.Learnt tt (d, (pins, (n, tt))) r (d, (pins, (n, tt)))
       → Says replyOfLook (Call.look pins n) d (lookAnswer d pins n) r
   look-promises pins n r e = e
+
+  pub wake-promises : (pins n : ℕ) (r : LookAnswer) → wake-reads.Learnt tt (d, (pins, (n, tt))) r (d, (pins, (n, tt)))
+      → Says replyOfLook (Call.wake pins n) d (wakeAnswer d pins n) r
+  wake-promises pins n r e = e

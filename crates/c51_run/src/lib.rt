@@ -18,7 +18,7 @@ use machine::refusals::BAD_RECORD;
 use machine::refusals::PASSED;
 use machine::refusals::TOO_LONG;
 
-// One machine cycle with a pin byte, and the output line as it leaves it.
+// One machine cycle with a pin byte, and the output line as it leaves it; in power-down the device stays as it is.
 pub fn cycle(d: Device, pins: u8) -> CycleAnswer
     ensures { λ r. ⌜ r ≡ Machine.cycleAnswer d pins ⌝ }
 {
@@ -27,6 +27,9 @@ pub fn cycle(d: Device, pins: u8) -> CycleAnswer
     }
     if !pins_ok(pins) {
         return refuse_cycle(BAD_PINS, d);
+    }
+    if laws::powered_down(d.pcon) {
+        return passed_cycle(d);
     }
     passed_cycle(cycle::cycle_once(d, cycle::pins_of(d.kind, pins)))
 }
@@ -74,5 +77,21 @@ pub fn look(d: Device, pins: u8, n: u64) -> LookAnswer
     if n > LONGEST {
         return LookAnswer::Refused(TOO_LONG);
     }
-    jump::first_rise(d, cycle::pins_of(d.kind, pins), n)
+    looks::first_rise(d, cycle::pins_of(d.kind, pins), n)
+}
+
+// A wake look over n cycles with one pin byte: the first k from 0 to n after which an interrupt is offered, or none.
+pub fn wake(d: Device, pins: u8, n: u64) -> LookAnswer
+    ensures { λ r. ⌜ (r ≡ Machine.wakeAnswer d pins n) × (replyOfLook r ≡ play (Call.wake pins n) d .reply) ⌝ }
+{
+    if !record::accepts(d) {
+        return LookAnswer::Refused(BAD_RECORD);
+    }
+    if !pins_ok(pins) {
+        return LookAnswer::Refused(BAD_PINS);
+    }
+    if n > LONGEST {
+        return LookAnswer::Refused(TOO_LONG);
+    }
+    looks::first_offer(d, cycle::pins_of(d.kind, pins), n)
 }

@@ -57,6 +57,9 @@ TAKE = 8
 abbrev pub RETURN : ℕ
 RETURN = 9
 
+abbrev pub WAKE : ℕ
+WAKE = 10
+
 -- the call of a row, from its number and its arguments
 unfoldable pub callOf : ℕ → ℕ → ℕ → List ℕ → Call
 callOf op first second lent =
@@ -69,7 +72,8 @@ callOf op first second lent =
     (cond (eqb op LOOK) (Call.look (byteIn first) second)
     (cond (eqb op OFFER) Call.offer
     (cond (eqb op TAKE) Call.take
-    Call.return))))))))
+    (cond (eqb op WAKE) (Call.wake (byteIn first) second)
+    Call.return)))))))))
 
 -- Its answer
 

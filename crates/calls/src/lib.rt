@@ -37,6 +37,8 @@ const OFFER: u64 = 7;
 
 const TAKE: u64 = 8;
 
+const WAKE: u64 = 10;
+
 // What a call answers, as the row that is written down; and the device after it.
 pub struct Shown {
     pub row: [u64; ANSWER_WORDS],
@@ -177,6 +179,7 @@ pub fn play_one(d: Device, op: u64, first: u64, second: u64, lent: &[u32]) -> Sh
         LOOK => shown_look(c51_run::look(d, byte_in(first), second), d),
         OFFER => shown_offer(c51_interrupt::offer(d), d),
         TAKE => shown_take(c51_interrupt::take(d)),
+        WAKE => shown_look(c51_run::wake(d, byte_in(first), second), d),
         _ => shown_plain(c51_interrupt::reti(d)),
     }
 }

@@ -13,6 +13,7 @@ use Rattle.machine.specs.declared.Ticks.{Ticks}
 use Rattle.machine.specs.declared.Device.{Device}
 use Rattle.machine.specs.Bits.{bit, setBit}
 use Rattle.machine.specs.Registers.{RXD, T2, T2EX, IT0, IT1, IE0, IE1}
+use Rattle.machine.specs.Power.{poweredDown}
 use Rattle.machine.specs.Record.{accepted, pinsOf, levelsOf, levelsOk}
 use Rattle.machine.specs.Cycle.{falls, externals, counted, timersAfter, timer2After, ticksIn, steps, cycleOf}
 use Rattle.laws.specs.Ranges.{TimersOk, Timer2Ok, Absent, TicksOk, Ranges}
@@ -93,9 +94,9 @@ module _ (d : Device) (r : Ranges d) where
       low : (k : ℕ) → leb (bit k l) 1 ≡ true
       low k = le-leb (bit k l) 1 (le-pred-of-lt (bit-below k l))
 
-  pub cycle-ranges : (pins : ℕ) → Ranges (cycleOf pins d)
-  unfolding cycleOf steps
-  cycle-ranges pins =
+  steps-ranges : (pins : ℕ) → Ranges (steps d (pinsOf (d .kind) pins))
+  unfolding steps
+  steps-ranges pins =
       let l = pinsOf (d .kind) pins in
       record {
         kind = r .kind;
@@ -119,6 +120,10 @@ module _ (d : Device) (r : Ranges d) where
         levels = levels-keep l;
         cycle = mod-lt (d .cycle + 1) (omega arith);
       }
+
+  pub cycle-ranges : (pins : ℕ) → Ranges (cycleOf pins d)
+  unfolding cycleOf
+  cycle-ranges pins = chosen Ranges (poweredDown (d .pcon)) d (steps d (pinsOf (d .kind) pins)) r (steps-ranges pins)
 
 -- at most six ticks come in a cycle of an accepted device, by the law of the machine
 pub ticks-ok : (d : Device) → accepted d ≡ true → (l : ℕ) {c : Counted} {k : Ticks} → c ≡ counted d l → k ≡ ticksIn d c → TicksOk k

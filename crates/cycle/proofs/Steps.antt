@@ -1,5 +1,6 @@
--- A cycle put together from its steps: each step's result is its definition's, so the whole is.
-use mathlib.Core.Path.{_≡_, ap, _∙_}
+-- A cycle put together from its steps: each step's result is its definition's, so the whole is. In power-down it has no steps.
+use mathlib.Core.Path.{_≡_, sym, ap, _∙_}
+use mathlib.Core.Bool.{false}
 use mathlib.Core.List.{List}
 use Prim.Native.Nat.{ℕ, _+_, _%_, _^_}
 use Rattle.machine.specs.declared.Timers.{Timers}
@@ -10,6 +11,7 @@ use Rattle.machine.specs.declared.Ticks.{Ticks}
 use Rattle.machine.specs.declared.Device.{Device}
 use Rattle.machine.specs.Bits.{bit}
 use Rattle.machine.specs.Registers.{RXD}
+use Rattle.machine.specs.Power.{poweredDown}
 use Rattle.machine.specs.Record.{pinsOf, levelsOf}
 use Rattle.machine.specs.Serial.{serialStep}
 use Rattle.machine.specs.Interrupts.{seenOf}
@@ -40,7 +42,13 @@ module _ (d : Device) (l : ℕ) {rxd seen number : ℕ} {c : Counted} {k : Ticks
   unfolding steps
   steps-are ec ek er es et eu en eo em = rw (en, et, eu, es, eo, em, er, ek, ec)
 
--- with the pin byte as the kind takes it, the cycle is that of the pin byte which is given
-pub cycle-reaches : (pins : ℕ) (d : Device) {l : ℕ} {u : Device} → l ≡ pinsOf (d .kind) pins → u ≡ steps d l → u ≡ cycleOf pins d
-unfolding cycleOf
-cycle-reaches pins d e f = f ∙ ap (steps d) e
+module _ (pins : ℕ) (d : Device) where
+  -- out of power-down
+  pub cycle-up : poweredDown (d .pcon) ≡ false → cycleOf pins d ≡ steps d (pinsOf (d .kind) pins)
+  unfolding cycleOf
+  cycle-up f = rw f
+
+  -- with the pin byte as the kind takes it, the cycle is that of the pin byte which is given
+  pub cycle-reaches : poweredDown (d .pcon) ≡ false → {l : ℕ} {u : Device} → l ≡ pinsOf (d .kind) pins → u ≡ steps d l
+      → u ≡ cycleOf pins d
+  cycle-reaches f e g = g ∙ (ap (steps d) e ∙ sym (cycle-up f))

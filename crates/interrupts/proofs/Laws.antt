@@ -13,7 +13,7 @@ use Rattle.laws.proofs.Tests.{all, at}
 use Rattle.machine.specs.Bits.{bit}
 use Rattle.machine.specs.Registers.{IE0, TF0, IE1, TF1, RI, TI, TF2, EXF2, EA}
 use Rattle.machine.specs.declared.Interrupts.{Interrupts}
-use Rattle.machine.specs.Interrupts.{Source, none, source, either, seenOf, firstOf, sources, asks, asksMarked, orElse, offered, vectorOf}
+use Rattle.machine.specs.Interrupts.{Source, none, source, either, seenOf, firstOf, sources, asks, asksMarked, orElse, choice, vectorOf}
 use Rattle.interrupts.specs.Number.{numberOf, firstSet}
 
 -- the four flags of TCON in seen
@@ -149,14 +149,14 @@ marked-few : (i : Interrupts) → bitAnd (asking i) (i .ip) < 64
 marked-few i =
     omega (arith, and-le-l (asking i) (i .ip), and-le-r (i .polled) (letBy (i .ie)), let-few (i .ie))
 
--- the offer by masks: marked sources before others, none while high is in service, only marked ones while low is
-pub offered-by-masks : (i : Interrupts)
+-- the choice by masks: marked sources before others, none while high is in service, only marked ones while low is
+pub choice-by-masks : (i : Interrupts)
     → firstSet
     (cond (eqb (i .high) 1) 0
     (cond (eqb (bitAnd (asking i) (i .ip)) 0) (cond (eqb (i .low) 1) 0 (asking i)) (bitAnd (asking i) (i .ip))))
-    ≡ offered i
-unfolding offered
-offered-by-masks i =
+    ≡ choice i
+unfolding choice
+choice-by-masks i =
     simp (cond-ap firstSet, no-source, first-set (asksMarked i) (bitAnd (asking i) (i .ip)) (set-marked i), first-set (asks i) (asking i) (set-asking i), or-else (bitAnd (asking i) (i .ip)) (cond (eqb (i .low) 1) none (firstSet (asking i))) (marked-few i))
 
 -- the vector by a shift

@@ -4,14 +4,16 @@ use mathlib.Core.Bool.{Bool}
 use Prim.Native.Nat.{ℕ, _<_, _≤_}
 use native.Mathlib.Nat.{le-trans, sub-le}
 use native.Mathlib.Omega.{arith}
-use lib.Dec.{eqb, lit<, lit≤}
+use lib.Dec.{eqb, ltb, lit<, lit≤}
+use borrow.Author.Tests.{lt-ltb}
 use Rattle.laws.specs.Ranges.{InterruptsOk}
 use Rattle.machine.proofs.Choices.{chosen}
 use Rattle.laws.proofs.Bits.{set-lt, clear-lt}
 use Rattle.machine.specs.Bits.{bit, setBit}
 use Rattle.machine.specs.Registers.{TF0, TF1, IE0, IE1, IT0, IT1, RI, TI, TF2, EXF2}
 use Rattle.machine.specs.declared.Interrupts.{Interrupts}
-use Rattle.machine.specs.Interrupts.{Source, none, source, external, seenOf, firstOf, sources, asks, asksMarked, orElse, offered, inService, taken, returned}
+use Rattle.machine.specs.Power.{poweredDown}
+use Rattle.machine.specs.Interrupts.{Source, none, source, external, seenOf, firstOf, sources, asks, asksMarked, orElse, choice, offered, offers, someSource, inService, taken, returned}
 use Rattle.interrupts.specs.Number.{numberOf}
 use Rattle.interrupts.proofs.Laws.{either-few}
 
@@ -89,9 +91,9 @@ or-one : (a b : Source) → One a → One b → One (orElse a b)
 or-one none b p q = q
 or-one (source k) b p q = p
 
-offered-one : (i : Interrupts) → One (offered i)
-unfolding offered One
-offered-one i =
+choice-one : (i : Interrupts) → One (choice i)
+unfolding choice One
+choice-one i =
     chosen One (eqb (i .high) 1) none _ tt
     (or-one (firstOf (asksMarked i) sources) _ (first-one (asksMarked i)) (chosen One (eqb (i .low) 1) none _ tt (first-one (asks i))))
 
@@ -105,8 +107,22 @@ unfolding One
 number-none none o h = refl
 number-none (source k) o h = absurd (omega arith)
 
-pub offered-below : (i : Interrupts) → numberOf (offered i) < 6 → offered i ≡ source (numberOf (offered i))
-offered-below i = number-source (offered i)
+number-some : (s : Source) → One s → ltb (numberOf s) 6 ≡ someSource s
+unfolding One
+number-some none o = refl
+number-some (source k) o = lt-ltb k 6 o
 
-pub offered-none : (i : Interrupts) → 6 ≤ numberOf (offered i) → offered i ≡ none
-offered-none i = number-none (offered i) (offered-one i)
+module _ (pcon : ℕ) (i : Interrupts) where
+  offered-one : One (offered pcon i)
+  unfolding offered One
+  offered-one = chosen One (poweredDown pcon) none (choice i) tt (choice-one i)
+
+  pub offered-below : numberOf (offered pcon i) < 6 → offered pcon i ≡ source (numberOf (offered pcon i))
+  offered-below = number-source (offered pcon i)
+
+  pub offered-none : 6 ≤ numberOf (offered pcon i) → offered pcon i ≡ none
+  offered-none = number-none (offered pcon i) offered-one
+
+  -- an interrupt is offered
+  pub offers-below : ltb (numberOf (offered pcon i)) 6 ≡ offers pcon i
+  offers-below = number-some (offered pcon i) offered-one

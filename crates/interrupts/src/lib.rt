@@ -61,9 +61,9 @@ fn first_of(sources: u8) -> u8
     u8::trailing_zeros(sources | (1 << NONE)) as u8
 }
 
-// The number of the source that is offered, or NONE.
-pub fn offered(i: Interrupts) -> u8
-    ensures { λ r. ⌜ r ≡ numberOf (Interrupt.offered i) ⌝ }
+// The number of the source that the controller would serve, or NONE.
+fn choice(i: Interrupts) -> u8
+    ensures { λ r. ⌜ r ≡ numberOf (Interrupt.choice i) ⌝ }
 {
     let enabled = picked(((i.ie >> EA) & 1) == 1, i.ie & SOURCES, 0);
     let asking = i.polled & enabled;
@@ -71,6 +71,23 @@ pub fn offered(i: Interrupts) -> u8
     let unmarked = picked(i.low == 1, 0, asking);
     let chosen = picked(marked == 0, unmarked, marked);
     first_of(picked(i.high == 1, 0, chosen))
+}
+
+// The number of the source that is offered, or NONE: none in power-down.
+pub fn offered(pcon: u8, i: Interrupts) -> u8
+    ensures { λ r. ⌜ r ≡ numberOf (Interrupt.offered pcon i) ⌝ }
+{
+    if laws::powered_down(pcon) {
+        return NONE;
+    }
+    choice(i)
+}
+
+// An interrupt is offered.
+pub fn offers(pcon: u8, i: Interrupts) -> bool
+    ensures { λ r. ⌜ r ≡ Interrupt.offers pcon i ⌝ }
+{
+    offered(pcon, i) < NONE
 }
 
 // The vector of a source: 03, and 8 more for each source after the first.

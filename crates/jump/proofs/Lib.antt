@@ -1,6 +1,5 @@
 pub mod Taken
 pub mod Keeps
 pub mod Idles
-pub mod Flags
 pub mod Rounds
 pub mod Busy

@@ -1,20 +1,18 @@
--- The pin byte as the kind takes it stands for the one that is given: taking it again changes nothing, and cycles and
--- rises are the same with it; by induction on the cycles.
+-- The pin byte as the kind takes it stands for the one that is given: taking it again changes nothing, and cycles are the same with it;
+-- by induction on the cycles.
 use Prim.Native.Nat.{ℕ, zero, suc}
 use mathlib.Core.Path.{_≡_, refl, sym, ap, _∙_}
 use mathlib.Core.Bool.{Bool, true, false, cond}
 use native.Mathlib.Omega.{arith}
 use lib.Dec.{eqb}
 use Rattle.machine.specs.declared.Device.{Device}
-use Rattle.machine.specs.declared.LookAnswer.{LookAnswer}
-use Rattle.machine.specs.declared.LookAnswer.the-variants.{At}
 use Rattle.machine.specs.Bits.{setBit}
 use Rattle.machine.specs.Registers.{T2, T2EX}
+use Rattle.machine.specs.Power.{poweredDown}
 use Rattle.machine.specs.Record.{accepted, pinsOf}
-use Rattle.machine.specs.Flags.{flags, anyRises}
 use Rattle.machine.specs.Cycle.{steps, cycleOf, cycles}
-use Rattle.machine.specs.Calls.{rises, firstRise}
 use Rattle.laws.proofs.Bits.{bit-set, bit-set-other, set-same}
+use Rattle.strides.proofs.Runs.{cycle-kind}
 use Rattle.jump.specs.Rounds.{Ready}
 
 pub pins-twice : (kind pins : ℕ) → pinsOf kind (pinsOf kind pins) ≡ pinsOf kind pins
@@ -34,23 +32,22 @@ pins-twice kind pins = go (eqb kind 51)
     go true = again
     go false = refl
 
-module _ (pins : ℕ) (d : Device) where
-  pub cycle-taken : cycleOf (pinsOf (d .kind) pins) d ≡ cycleOf pins d
-  unfolding cycleOf
-  cycle-taken = ap (steps d) (pins-twice (d .kind) pins)
+pub cycle-taken : (pins : ℕ) (d : Device) → cycleOf (pinsOf (d .kind) pins) d ≡ cycleOf pins d
+unfolding cycleOf
+cycle-taken pins d = ap (λ (l : ℕ). cond (poweredDown (d .pcon)) d (steps d l)) (pins-twice (d .kind) pins)
+
+-- what is made of the device after a cycle with the pin byte as its kind takes it, by what is made of it with the pin byte as it is
+pub taken-on : {A : Type 0} (f : ℕ → Device → A) (pins : ℕ) (d : Device)
+    → f (pinsOf (cycleOf pins d .kind) pins) (cycleOf pins d) ≡ f pins (cycleOf pins d)
+    → f (pinsOf (d .kind) pins) (cycleOf (pinsOf (d .kind) pins) d) ≡ f pins (cycleOf pins d)
+taken-on f pins d on =
+    ap (f (pinsOf (d .kind) pins)) (cycle-taken pins d)
+    ∙ (ap (λ (k : ℕ). f (pinsOf k pins) (cycleOf pins d)) (sym (cycle-kind pins d)) ∙ on)
 
 pub cycles-taken : (n pins : ℕ) (d : Device) → cycles n (pinsOf (d .kind) pins) d ≡ cycles n pins d
-unfolding cycles cycleOf steps
+unfolding cycles
 cycles-taken zero pins d = refl
-cycles-taken (suc n) pins d =
-    ap (cycles n (pinsOf (d .kind) pins)) (cycle-taken pins d) ∙ cycles-taken n pins (cycleOf pins d)
-
-pub firstRise-taken : (k n pins : ℕ) (d : Device) → firstRise k n (pinsOf (d .kind) pins) d ≡ firstRise k n pins d
-unfolding firstRise cycleOf steps
-firstRise-taken k zero pins d = refl
-firstRise-taken k (suc n) pins d =
-    (λ i. cond (anyRises (flags d) (flags (cycle-taken pins d i))) (At (suc k)) (firstRise (suc k) n (pinsOf (d .kind) pins) (cycle-taken pins d i)))
-    ∙ ap (λ (a : LookAnswer). cond (rises pins d) (At (suc k)) a) (firstRise-taken (suc k) n pins (cycleOf pins d))
+cycles-taken (suc n) pins d = taken-on (cycles n) pins d (cycles-taken n pins (cycleOf pins d))
 
 -- what is called with a pin byte as the kind takes it promises the same of the one that is given
 module _ (pins : ℕ) (d : Device) {l : ℕ} (e : l ≡ pinsOf (d .kind) pins) where
@@ -59,6 +56,3 @@ module _ (pins : ℕ) (d : Device) {l : ℕ} (e : l ≡ pinsOf (d .kind) pins) w
 
   pub run-taken : (n : ℕ) {u : Device} → u ≡ cycles n l d → u ≡ cycles n pins d
   run-taken n c = c ∙ (ap (λ (p : ℕ). cycles n p d) e ∙ cycles-taken n pins d)
-
-  pub look-taken : (k n : ℕ) {v : LookAnswer} → v ≡ firstRise k n l d → v ≡ firstRise k n pins d
-  look-taken k n q = q ∙ (ap (λ (p : ℕ). firstRise k n p d) e ∙ firstRise-taken k n pins d)

@@ -12,7 +12,7 @@ use borrow.Author.Tests.{ltb-true, ltb-false}
 use lib.Pow as P
 use lib.Pow.{pow-lt, pow-pos, pow-add, split, high, low, mod-mod-pow, shl-exact, shr-lt, shr-mod, shr-shr, ones-lt, suc-ones}
 use lib.Arith.{bin-ind, digits-mod}
-use lib.Bits.{bitAnd, bitOr, and-mask, and-high, and-step, and-shr, and-block, and-self, and-zero-r, or-add-and, or-shifted, or-zero-r}
+use lib.Bits.{bitAnd, bitOr, and-mask, and-comm, and-high, and-step, and-shr, and-block, and-self, and-zero-r, or-add-and, or-shifted, or-zero-r}
 use Rattle.machine.specs.Bits.{bit, setBit, clearBit, putBit, field}
 use Rattle.machine.specs.Timers.{flagged}
 use Rattle.machine.proofs.Choices.{chosen}
@@ -300,3 +300,13 @@ and-twice x m = and-assoc x m m ∙ ap (bitAnd x) (and-self m)
 -- a number of w bits is within w ones, and only such a number
 pub lt-within : (w x : ℕ) → x < 2 ^ w → bitAnd x (2 ^ w - 1) ≡ x
 lt-within w x h = and-mask x w ∙ mod-eq-of-lt h
+
+-- clearing a bit keeps a byte within its mask
+pub clear-within : (k m x : ℕ) → k < 8 → x < 256 → bitAnd x m ≡ x → bitAnd (clearBit k x) m ≡ clearBit k x
+clear-within k m x h l e =
+    ap (λ (n : ℕ). bitAnd n m) (sym cleared)
+    ∙ (and-assoc x (255 - 2 ^ k) m
+    ∙ (ap (bitAnd x) (and-comm (255 - 2 ^ k) m) ∙ (sym (and-assoc x m (255 - 2 ^ k)) ∙ (ap (λ (n : ℕ). bitAnd n (255 - 2 ^ k)) e ∙ cleared))))
+  where
+    cleared : bitAnd x (255 - 2 ^ k) ≡ clearBit k x
+    cleared = clear-bit k h x l

@@ -2,3 +2,5 @@ pub mod Tests
 pub mod Bits
 pub mod Counting
 pub mod Guards
+pub mod Flags
+pub mod Sleep

@@ -2,8 +2,10 @@
 ghost use mathlib.Core.Path.{_≡_};
 ghost use mathlib.Core.Bool.{cond};
 ghost use Prim.Native.Nat.{_<_, min};
+ghost use Rattle.machine.specs.Power.{poweredDown};
 ghost use Rattle.machine.specs.Counting as Counting;
 ghost use Rattle.machine.specs.Timers as Timers;
+use machine::places::PD;
 
 // One of two bytes.
 pub fn picked(b: bool, x: u8, y: u8) -> u8
@@ -24,6 +26,13 @@ pub fn least(a: u64, b: u64) -> u64
     ensures { λ r. ⌜ r ≡ min a b ⌝ }
 {
     if a < b { a } else { b }
+}
+
+// PD is set: power-down.
+pub fn powered_down(pcon: u8) -> bool
+    ensures { λ r. ⌜ r ≡ poweredDown pcon ⌝ }
+{
+    ((pcon >> PD) & 1) == 1
 }
 
 // The 13 bits of a register pair in mode 0: TH, and the low 5 of TL.

@@ -10,6 +10,7 @@ use Rattle.machine.specs.declared.RunAnswer.{RunAnswer}
 use Rattle.machine.specs.declared.CycleAnswer.{CycleAnswer}
 use Rattle.machine.specs.declared.TakeAnswer.{TakeAnswer}
 use Rattle.machine.specs.Registers.{lacks}
+use Rattle.machine.specs.Power.{poweredDown}
 use Rattle.machine.specs.Record.{accepted, pinsOk}
 use Rattle.machine.specs.Interrupts.{Source, none, source, offered, noneInService}
 use Rattle.machine.specs.Calls.{writeAnswer, cycleAnswer, jumpAnswer, traceAnswer, traceFault, takeAnswer, takeOf, returnAnswer, longest}
@@ -31,7 +32,10 @@ module _ (d : Device) where
   pub write-refused : (address value : ℕ) → Same (writeAnswer d address value)
   unfolding writeAnswer
   write-refused address value =
-      chosen Same (accepted d) _ _ (chosen Same (lacks (d .kind) address) _ _ (λ _. refl) (λ n. absurd (n refl))) (λ _. refl)
+      chosen Same (accepted d) _ _
+      (chosen Same (poweredDown (d .pcon)) _ _ (λ _. refl)
+      (chosen Same (lacks (d .kind) address) _ _ (λ _. refl) (λ n. absurd (n refl))))
+      (λ _. refl)
 
   pub cycle-refused : (pins : ℕ) → SameCycle (cycleAnswer d pins)
   unfolding cycleAnswer
@@ -63,9 +67,15 @@ module _ (d : Device) where
 
   pub take-refused : SameTake (takeAnswer d)
   unfolding takeAnswer
-  take-refused = chosen SameTake (accepted d) _ _ (taken (offered (d .interrupts))) (λ _. (refl, refl))
+  take-refused =
+      chosen SameTake (accepted d) _ _
+      (chosen SameTake (poweredDown (d .pcon)) _ _ (λ _. (refl, refl)) (taken (offered (d .pcon) (d .interrupts))))
+      (λ _. (refl, refl))
 
   pub return-refused : Same (returnAnswer d)
   unfolding returnAnswer
   return-refused =
-      chosen Same (accepted d) _ _ (chosen Same (noneInService (d .interrupts)) _ _ (λ _. refl) (λ n. absurd (n refl))) (λ _. refl)
+      chosen Same (accepted d) _ _
+      (chosen Same (poweredDown (d .pcon)) _ _ (λ _. refl)
+      (chosen Same (noneInService (d .interrupts)) _ _ (λ _. refl) (λ n. absurd (n refl))))
+      (λ _. refl)

@@ -13,11 +13,10 @@ use Rattle.machine.specs.declared.ReadAnswer.{ReadAnswer}
 use Rattle.machine.specs.declared.OfferAnswer.{OfferAnswer}
 use Rattle.machine.specs.declared.LookAnswer.{LookAnswer}
 use Rattle.machine.specs.Calls.{resetAnswer}
-use Rattle.machine.specs.Lists.{Call, Reply, Played, Ran, ran, play, run, machine, played, replyOf, replyOfRun, replyOfCycle, replyOfTake, replyOfRead, replyOfOffer, replyOfLook}
-use Rattle.lists.specs.Demand3.{Kept, Chained, AsksNothing, Tells, Demand3}
+use Rattle.machine.specs.Lists.{Call, Value, Reply, Played, Ran, ran, play, run, machine, played, replyOf, replyOfRun, replyOfCycle, replyOfTake, replyOfRead, replyOfOffer, replyOfLook}
+use Rattle.lists.specs.Demand3.{Kept, Chained, AsksNothing, risesIn, offeredAfter, Tells, ToldInLists, Demand3}
 use Rattle.lists.specs.Demand3.Chained.{nothing, then}
-use Rattle.c51_access.proofs.reset.Reads as reset-reads
-use Rattle.lists.proofs.Looks.{look-means, look-tells}
+use Rattle.lists.proofs.Looks.{look-means, look-tells, wake-means, wake-tells}
 use Rattle.lists.proofs.Spells.{spelled}
 use Rattle.lists.proofs.Replayed.{run-long, replayed}
 
@@ -34,6 +33,7 @@ kept-played (Kept.look {d = d} e) = ap (λ (a : LookAnswer). played (replyOfLook
 kept-played (Kept.offer {d = d} e) = ap (λ (a : OfferAnswer). played (replyOfOffer a) d) (e .0)
 kept-played (Kept.take e) = ap (λ (a : TakeAnswer). played (replyOfTake a) (a .device)) e
 kept-played (Kept.return e) = ap (λ (a : Answer). played (replyOf a) (a .device)) e
+kept-played (Kept.wake {d = d} e) = ap (λ (a : LookAnswer). played (replyOfLook a) d) (e .0)
 
 chained : {cs : List Call} {d : Device} {rs : List Reply} {last : Device} → Chained cs d rs last → ran rs last ≡ run cs d
 unfolding run
@@ -55,6 +55,7 @@ kept-of (Call.look pins n) d = Kept.look (refl, refl)
 kept-of Call.offer d = Kept.offer (refl, refl)
 kept-of Call.take d = Kept.take refl
 kept-of Call.return d = Kept.return refl
+kept-of (Call.wake pins n) d = Kept.wake (refl, refl)
 
 every-list : (cs : List Call) (d : Device) → Chained cs d (run cs d .replies) (run cs d .device)
 unfolding run
@@ -74,6 +75,7 @@ asks-nothing =
       offers = λ d. tt;
       takes = λ d. tt;
       returns = λ d. tt;
+      wakes = λ d pins n. tt;
     }
 
 -- a list in two parts: the second from the state that the first leaves
@@ -99,17 +101,21 @@ reply-there before after c d last earlier later r e l =
     let there = run before d .device in
     heads earlier (run before d .replies) later (run after (play c there .device) .replies) r (play c there .reply) (l ∙ sym (run-long before d)) all
 
-looks-in-lists : (kind : ℕ) {a : Answer} (before after : List Call) (pins n : ℕ) (earlier later : List Reply) (r : Reply) {last : Device}
-    → reset-reads.Learnt tt (kind, tt) a (kind, tt)
-    → Chained (before ++ (Call.look pins n ∷ after)) (a .device) (earlier ++ (r ∷ later)) last
-    → length earlier ≡ length before → r .code ≡ 0
-    → Tells pins n (machine kind before .device) (r .value)
-unfolding machine play
-looks-in-lists kind {a} before after pins n earlier later r {last} e c l p =
-    let d = machine kind before .device in
-    let whole = chained c ∙ ap (λ (b : Answer). run (before ++ (Call.look pins n ∷ after)) (b .device)) e in
-    let here = reply-there before after (Call.look pins n) (resetAnswer kind .device) last earlier later r whole l in
-    look-tells pins n d r here p
+-- what the machine's reply tells, the reply in the list tells
+told-in-lists : (call : Call) (Told : Device → Value → Type 0)
+    → ((d : Device) (r : Reply) → r ≡ play call d .reply → r .code ≡ 0 → Told d (r .value)) → ToldInLists call Told
+unfolding machine
+told-in-lists call Told tells kind a before after earlier later r last e c l p =
+    let whole = chained c ∙ ap (λ (b : Answer). run (before ++ (call ∷ after)) (b .device)) e in
+    tells (machine kind before .device) r (reply-there before after call (resetAnswer kind .device) last earlier later r whole l) p
+
+looks-in-lists : (pins n : ℕ) → ToldInLists (Call.look pins n) (λ d. Tells 1 n (risesIn pins d))
+unfolding play
+looks-in-lists pins n = told-in-lists (Call.look pins n) _ (λ d r. look-tells pins n d r)
+
+wakes-in-lists : (pins n : ℕ) → ToldInLists (Call.wake pins n) (λ d. Tells 0 n (offeredAfter pins d))
+unfolding play
+wakes-in-lists pins n = told-in-lists (Call.wake pins n) _ (λ d r. wake-tells pins n d r)
 
 pub demand3 : Demand3
 unfolding machine
@@ -121,6 +127,8 @@ demand3 =
       asks-nothing = asks-nothing;
       looks = λ d pins n answer e p. look-means pins n d answer (e .0) p;
       looks-in-lists = looks-in-lists;
+      wakes = λ d pins n answer e p. wake-means pins n d answer (e .0) p;
+      wakes-in-lists = wakes-in-lists;
       spelled = spelled;
       replayed = replayed;
     }

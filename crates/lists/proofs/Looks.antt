@@ -1,54 +1,87 @@
--- What the first rise among n cycles means, both ways: by one induction that gives, with the answer, why it is that one.
-use Prim.Native.Nat.{ℕ, zero, suc, _+_, _-_, _≤_, _<_}
-use mathlib.Core.Path.{_≡_, refl, sym, ap, _∙_}
+-- What a look answers means, both ways, for the look ahead and the wake look alike: by one induction that gives, with the answer, why it
+-- is that one.
+use Prim.Native.Nat.{ℕ, zero, suc, _+_, _≤_, _<_}
+use mathlib.Core.Path.{_≡_, refl, sym, ap, _∙_, subst}
 use mathlib.Core.Bool.{Bool, true, false, cond}
 use native.Mathlib.Nat.{le-antisymm}
 use native.Mathlib.Omega.{arith}
-use lib.Dec.{ltb, leb}
-use borrow.Author.Tests.{ltb-true, ltb-false}
+use lib.Dec.{eqb, ltb, leb}
+use borrow.Author.Tests.{ltb-true, ltb-false, eqb-true, eqb-false}
 use Rattle.machine.specs.declared.Device.{Device}
 use Rattle.machine.specs.declared.LookAnswer.{LookAnswer}
 use Rattle.machine.specs.declared.LookAnswer.the-variants as Look
 use Rattle.machine.specs.Record.{accepted, pinsOk}
 use Rattle.machine.specs.Cycle.{cycleOf, cycles}
-use Rattle.machine.specs.Calls.{rises, firstRise, lookAnswer, longest}
+use Rattle.machine.specs.Calls.{firstCycle, rises, firstRise, offersTo, wakes, firstOffer, lookAnswer, wakeAnswer, longest}
 use Rattle.machine.specs.Lists.{Reply, number, replyOfLook}
 use Rattle.machine.specs.Lists.Value.{none}
-use Rattle.lists.specs.Demand3.{First, Never, Looks, Tells}
+use Rattle.machine.proofs.Choices.{clash, by-test}
+use Rattle.lists.specs.Demand3.{risesIn, offeredAfter, First, Never, Looks, Tells}
 
--- a flag rises in the cycle after j others
-abbrev after : ℕ → ℕ → Device → Bool
-after j pins d = rises pins (cycles j pins d)
+-- an answer of a search from a start to n, and why it is that one
+data Found (start n : ℕ) (so : ℕ → Bool) : LookAnswer → Type 0 where
+  at : (k : ℕ) → First start n so k → Found start n so (Look.At k)
+  nowhere : Never start n so → Found start n so Look.Nothing
 
--- an answer of a search of n cycles, k having gone before, and why it is that one
-data Found (k n pins : ℕ) (d : Device) : LookAnswer → Type 0 where
-  at : (j m : ℕ) → m ≡ k + suc j → j < n → after j pins d ≡ true → ((i : ℕ) → i < j → after i pins d ≡ false)
-      → Found k n pins d (Look.At m)
-  nowhere : ((i : ℕ) → i < n → after i pins d ≡ false) → Found k n pins d Look.Nothing
+-- The search
 
-module _ (k n pins : ℕ) (d : Device) where
-  before : after 0 pins d ≡ false → (j : ℕ) → ((i : ℕ) → i < j → after i pins (cycleOf pins d) ≡ false)
-      → (i : ℕ) → i < suc j → after i pins d ≡ false
+module _ (start n : ℕ) (so : ℕ → Bool) where
+  -- found at its start
+  found-start : start ≤ n → so start ≡ true → Found start n so (Look.At start)
+  found-start h e =
+      at start (record { from = omega arith; within = h; here = e; before = λ j g l. absurd (omega arith) })
+
+  -- one place more at the front, where it is not so
+  not-start : so start ≡ false → {P : ℕ → Type 0} → ((j : ℕ) → suc start ≤ j → P j → so j ≡ false)
+      → (j : ℕ) → start ≤ j → P j → so j ≡ false
+  not-start e f j h p =
+      by-test (eqb j start) (λ t. ap so (eqb-true j start t) ∙ e) (λ t. f j (omega (arith, eqb-false j start t)) p)
+
+  found-more : so start ≡ false → {a : LookAnswer} → Found (suc start) n so a → Found start n so a
+  found-more e (at k f) =
+      at k (record { from = omega (arith, f .from); within = f .within; here = f .here; before = not-start e (f .before) })
+  found-more e (nowhere f) = nowhere (not-start e f)
+
+-- a search of n cycles, k having gone before: what the test finds is so at k + 1 and on
+found-after : (finds : Device → Device → Bool) (k n pins : ℕ) (d : Device) (so : ℕ → Bool)
+    → ((j : ℕ) → so (k + suc j) ≡ finds (cycles j pins d) (cycles (suc j) pins d))
+    → Found (suc k) (k + n) so (firstCycle finds k n pins d)
+unfolding firstCycle cycles
+found-after finds k zero pins d so is = nowhere (λ j g h. absurd (omega arith))
+found-after finds k (suc n) pins d so is =
+    go (finds d (cycleOf pins d)) refl
+    (found-after finds (suc k) n pins (cycleOf pins d) so (λ j. ap so (omega arith) ∙ is (suc j)))
+  where
+    first : so (suc k) ≡ finds d (cycleOf pins d)
+    first = ap so (omega arith) ∙ is 0
+
+    go : (b : Bool) → finds d (cycleOf pins d) ≡ b → {a : LookAnswer} → Found (suc (suc k)) (suc k + n) so a
+        → Found (suc k) (k + suc n) so (cond b (Look.At (suc k)) a)
+    go true e rest = found-start (suc k) (k + suc n) so (omega arith) (first ∙ e)
+    go false e {a} rest =
+        found-more (suc k) (k + suc n) so (first ∙ e) (subst (λ (m : ℕ). Found (suc (suc k)) m so a) (omega arith) rest)
+
+module _ (pins n : ℕ) (d : Device) where
+  -- from cycle 1 on
+  searched : (finds : Device → Device → Bool) (so : ℕ → Bool)
+      → ((j : ℕ) → so (suc j) ≡ finds (cycles j pins d) (cycles (suc j) pins d)) → Found 1 n so (firstCycle finds 0 n pins d)
+  searched finds so is =
+      subst (λ (m : ℕ). Found 1 m so (firstCycle finds 0 n pins d)) (omega arith)
+      (found-after finds 0 n pins d so (λ j. ap so (omega arith) ∙ is j))
+
+  -- the look ahead, and the wake look, which begins at 0
+  rises-found : Found 1 n (risesIn pins d) (firstRise n pins d)
+  rises-found = searched rises (risesIn pins d) (λ j. ap (λ (i : ℕ). rises (cycles i pins d) (cycles (suc j) pins d)) (omega arith))
+
+  offers-found : Found 0 n (offeredAfter pins d) (firstOffer n pins d)
   unfolding cycles
-  before r j f zero h = r
-  before r j f (suc i) h = f i (omega arith)
+  offers-found = go (offersTo d) refl
+    where
+      go : (b : Bool) → offersTo d ≡ b → Found 0 n (offeredAfter pins d) (cond b (Look.At 0) (firstCycle wakes 0 n pins d))
+      go true e = found-start 0 n (offeredAfter pins d) (omega arith) e
+      go false e = found-more 0 n (offeredAfter pins d) e (searched wakes (offeredAfter pins d) (λ j. refl))
 
-  -- one cycle more at the front
-  found-step : (b : Bool) → rises pins d ≡ b → {a : LookAnswer} → Found (suc k) n pins (cycleOf pins d) a
-      → Found k (suc n) pins d (cond b (Look.At (suc k)) a)
-  unfolding cycles
-  found-step true r f = at 0 (suc k) (omega arith) (omega arith) r (λ i h. absurd (omega arith))
-  found-step false r (at j m e l t f) = at (suc j) m (omega arith) (omega arith) t (before r j f)
-  found-step false r (nowhere f) = nowhere (before r n f)
-
-found : (k n pins : ℕ) (d : Device) → Found k n pins d (firstRise k n pins d)
-unfolding firstRise
-found k zero pins d = nowhere (λ i h. absurd (omega arith))
-found k (suc n) pins d = found-step k n pins d (rises pins d) refl (found (suc k) n pins (cycleOf pins d))
-
--- a look's refusals in their order
-abbrev judged : Bool → Bool → Bool → LookAnswer → LookAnswer
-judged b₁ b₂ b₃ a = cond b₁ (cond b₂ (cond b₃ a (Look.Refused 5)) (Look.Refused 4)) (Look.Refused 1)
+-- What is found is what the answer means
 
 not-above : (x y : ℕ) → (y < x → ⊥) → x ≤ y
 not-above x y h = go (ltb y x) refl
@@ -57,88 +90,92 @@ not-above x y h = go (ltb y x) refl
     go true e = absurd (h (ltb-true y x e))
     go false e = ltb-false y x e
 
-module _ (pins n : ℕ) (d : Device) where
-  -- a cycle in which a flag rises is none in which it does not
-  apart : {b : Bool} → b ≡ true → b ≡ false → ⊥
-  apart p q = let z : _≡_ {A = ℕ} 0 1 = cc in omega arith
+module _ {start n : ℕ} {so : ℕ → Bool} where
+  -- there is one first
+  only : (m k : ℕ) → First start n so m → First start n so k → m ≡ k
+  only m k f g =
+      le-antisymm (not-above m k (λ h. clash (g .here) (f .before k (g .from) h)))
+      (not-above k m (λ h. clash (f .here) (g .before m (f .from) h)))
 
-  found-means : {a : LookAnswer} → Found 0 n pins d a → Looks pins n d a
-  found-means (at j m e l t f) =
+  found-means : {a : LookAnswer} → Found start n so a → Looks start n so a
+  found-means (at m f) =
       record {
-        names = λ k q. let s : m ≡ k = cc in rw s at first;
-        named = λ k g. ap Look.At (only k g);
+        names = λ k q. let s : m ≡ k = cc in rw s at f;
+        named = λ k g. ap Look.At (only m k f g);
         none-said = λ q. let z : _≡_ {A = ℕ} 0 1 = cc in absurd (omega arith);
-        none-rises = λ g. absurd (apart (first .here) (g m (first .some) (first .within)));
+        none-is = λ g. absurd (clash (f .here) (g m (f .from) (f .within)));
       }
-    where
-      here : m - 1 ≡ j
-      here = omega arith
-
-      first : First pins n d m
-      first =
-          record {
-            some = omega arith;
-            within = omega arith;
-            here = ap (λ (i : ℕ). after i pins d) here ∙ t;
-            before = λ i g h. f (i - 1) (omega arith);
-          }
-
-      only : (k : ℕ) → First pins n d k → m ≡ k
-      only k g =
-          le-antisymm (not-above m k (λ h. apart (g .here) (first .before k (g .some) h)))
-          (not-above k m (λ h. apart (first .here) (g .before m (first .some) h)))
   found-means (nowhere f) =
       record {
         names = λ k q. let z : _≡_ {A = ℕ} 0 1 = cc in absurd (omega arith);
-        named = λ k g. absurd (apart (g .here) (never k (g .some) (g .within)));
-        none-said = λ q. never;
-        none-rises = λ g. refl;
+        named = λ k g. absurd (clash (g .here) (f k (g .from) (g .within)));
+        none-said = λ q. f;
+        none-is = λ g. refl;
       }
-    where
-      never : Never pins n d
-      never k g h = f (k - 1) (omega arith)
-
-  -- a look that passes answers the first rise
-  passes : (b₁ b₂ b₃ : Bool) (a : LookAnswer) → replyOfLook (judged b₁ b₂ b₃ a) .code ≡ 0 → judged b₁ b₂ b₃ a ≡ a
-  passes true true true a e = refl
-  passes true true false a e = absurd (omega arith)
-  passes true false b₃ a e = absurd (omega arith)
-  passes false b₂ b₃ a e = absurd (omega arith)
 
   -- the same of what its reply says
-  at-tells : (m : ℕ) → Looks pins n d (Look.At m) → Tells pins n d (number m)
+  at-tells : (m : ℕ) → Looks start n so (Look.At m) → Tells start n so (number m)
   at-tells m w =
       record {
         names = λ k q. let s : m ≡ k = cc in w .names k (ap Look.At s);
         named = λ k g. let q = w .named k g in cc;
         none-said = λ q. let z : _≡_ {A = ℕ} 0 1 = cc in absurd (omega arith);
-        none-rises = λ g. let q = w .none-rises g in let z : _≡_ {A = ℕ} 0 1 = cc in absurd (omega arith);
+        none-is = λ g. let q = w .none-is g in let z : _≡_ {A = ℕ} 0 1 = cc in absurd (omega arith);
       }
 
-  nothing-tells : Looks pins n d Look.Nothing → Tells pins n d none
+  nothing-tells : Looks start n so Look.Nothing → Tells start n so none
   nothing-tells w =
       record {
         names = λ k q. let z : _≡_ {A = ℕ} 0 1 = cc in absurd (omega arith);
         named = λ k g. let q = w .named k g in let z : _≡_ {A = ℕ} 0 1 = cc in absurd (omega arith);
         none-said = λ q. w .none-said refl;
-        none-rises = λ g. refl;
+        none-is = λ g. refl;
       }
 
-  found-tells : {a : LookAnswer} → Found 0 n pins d a → Tells pins n d (replyOfLook a .value)
-  found-tells (at j m e l t f) = at-tells m (found-means (at j m e l t f))
+  found-tells : {a : LookAnswer} → Found start n so a → Tells start n so (replyOfLook a .value)
+  found-tells (at m f) = at-tells m (found-means (at m f))
   found-tells (nowhere f) = nothing-tells (found-means (nowhere f))
 
-  -- what a look that passes answers
-  first-is : (a : LookAnswer) → a ≡ lookAnswer d pins n → replyOfLook a .code ≡ 0 → a ≡ firstRise 0 n pins d
+-- A look that passes answers what it found
+
+-- a look's refusals in their order
+abbrev judged : Bool → Bool → Bool → LookAnswer → LookAnswer
+judged b₁ b₂ b₃ a = cond b₁ (cond b₂ (cond b₃ a (Look.Refused 5)) (Look.Refused 4)) (Look.Refused 1)
+
+passes : (b₁ b₂ b₃ : Bool) (a : LookAnswer) → replyOfLook (judged b₁ b₂ b₃ a) .code ≡ 0 → judged b₁ b₂ b₃ a ≡ a
+passes true true true a e = refl
+passes true true false a e = absurd (omega arith)
+passes true false b₃ a e = absurd (omega arith)
+passes false b₂ b₃ a e = absurd (omega arith)
+
+module _ (pins n : ℕ) (d : Device) where
+  -- for what either look found
+  module _ {start : ℕ} {so : ℕ → Bool} (found : LookAnswer) (why : Found start n so found) where
+    abbrev answered : LookAnswer
+    answered = judged (accepted d) (pinsOk pins) (leb n longest) found
+
+    passed-is : (a : LookAnswer) → a ≡ answered → replyOfLook a .code ≡ 0 → a ≡ found
+    passed-is a e p =
+        e ∙ passes (accepted d) (pinsOk pins) (leb n longest) found (ap (λ (x : LookAnswer). replyOfLook x .code) (sym e) ∙ p)
+
+    means : (a : LookAnswer) → a ≡ answered → replyOfLook a .code ≡ 0 → Looks start n so a
+    means a e p = rw (passed-is a e p) (found-means why)
+
+    tells : (r : Reply) → r ≡ replyOfLook answered → r .code ≡ 0 → Tells start n so (r .value)
+    tells r e p = rw (e, passed-is answered refl (ap (λ (x : Reply). x .code) (sym e) ∙ p)) (found-tells why)
+
+  pub look-means : (a : LookAnswer) → a ≡ lookAnswer d pins n → replyOfLook a .code ≡ 0 → Looks 1 n (risesIn pins d) a
   unfolding lookAnswer
-  first-is a e p =
-      let code = ap (λ (x : LookAnswer). replyOfLook x .code) (sym e) ∙ p in
-      e ∙ passes (accepted d) (pinsOk pins) (leb n longest) (firstRise 0 n pins d) code
+  look-means = means (firstRise n pins d) (rises-found pins n d)
 
-  pub look-means : (a : LookAnswer) → a ≡ lookAnswer d pins n → replyOfLook a .code ≡ 0 → Looks pins n d a
-  look-means a e p = rw (first-is a e p) (found-means (found 0 n pins d))
+  pub look-tells : (r : Reply) → r ≡ replyOfLook (lookAnswer d pins n) → r .code ≡ 0 → Tells 1 n (risesIn pins d) (r .value)
+  unfolding lookAnswer
+  look-tells = tells (firstRise n pins d) (rises-found pins n d)
 
-  pub look-tells : (r : Reply) → r ≡ replyOfLook (lookAnswer d pins n) → r .code ≡ 0 → Tells pins n d (r .value)
-  look-tells r e p =
-      let first = first-is (lookAnswer d pins n) refl (ap (λ (x : Reply). x .code) (sym e) ∙ p) in
-      rw (e, first) (found-tells (found 0 n pins d))
+  pub wake-means : (a : LookAnswer) → a ≡ wakeAnswer d pins n → replyOfLook a .code ≡ 0 → Looks 0 n (offeredAfter pins d) a
+  unfolding wakeAnswer
+  wake-means = means (firstOffer n pins d) (offers-found pins n d)
+
+  pub wake-tells : (r : Reply) → r ≡ replyOfLook (wakeAnswer d pins n) → r .code ≡ 0 → Tells 0 n (offeredAfter pins d) (r .value)
+  unfolding wakeAnswer
+  wake-tells = tells (firstOffer n pins d) (offers-found pins n d)

@@ -16,7 +16,7 @@ use Rattle.machine.specs.declared.OfferAnswer.{OfferAnswer}
 use Rattle.machine.specs.declared.OfferAnswer.the-variants as Offer
 use Rattle.machine.specs.declared.LookAnswer.{LookAnswer}
 use Rattle.machine.specs.declared.LookAnswer.the-variants as Look
-use Rattle.machine.specs.Calls.{readAnswer, lookAnswer, offerAnswer}
+use Rattle.machine.specs.Calls.{readAnswer, lookAnswer, wakeAnswer, offerAnswer}
 use Rattle.machine.specs.Lists.{Call, Reply, Value, Ran, says, play, run, machine, replyOfRead, replyOfOffer, replyOfLook}
 use Rattle.machine.specs.Lists.Value.{numbers, none}
 use Rattle.calls.specs.Row.{mostNumbers, answerWords, noneMark, padded, rowOf}
@@ -70,6 +70,7 @@ few (Call.look pins n) d = few-look (lookAnswer d pins n)
 few Call.offer d = few-offer (offerAnswer d)
 few Call.take d = omega arith
 few Call.return d = omega arith
+few (Call.wake pins n) d = few-look (wakeAnswer d pins n)
 
 all-few : (cs : List Call) (d : Device) → Each FewIn (run cs d .replies)
 unfolding run Each

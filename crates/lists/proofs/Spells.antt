@@ -37,6 +37,7 @@ spelled-here (Call.look pins n) pre post f = ap (λ (p : ℕ). Call.look p n) (m
 spelled-here Call.offer pre post f = refl
 spelled-here Call.take pre post f = refl
 spelled-here Call.return pre post f = refl
+spelled-here (Call.wake pins n) pre post f = ap (λ (p : ℕ). Call.wake p n) (mod-eq-of-lt (f .0))
 
 spelled-all : (cs : List Call) (pre : List ℕ) → Each Fits cs
     → callsIn (length cs) (rowsOfCalls (length pre) cs) (pre ++ lentOf cs) ≡ cs
@@ -68,6 +69,7 @@ words-fit k (Call.look pins n) f h = let g = f .0 in record { op = omega arith; 
 words-fit k Call.offer f h = record { op = omega arith; first = omega arith; second = omega arith }
 words-fit k Call.take f h = record { op = omega arith; first = omega arith; second = omega arith }
 words-fit k Call.return f h = record { op = omega arith; first = omega arith; second = omega arith }
+words-fit k (Call.wake pins n) f h = let g = f .0 in record { op = omega arith; first = omega arith; second = f .1 }
 
 rows-fit : (k : ℕ) (cs : List Call) → Each Fits cs → k + length (lentOf cs) < 2 ^ 63 → Each (In 8) (rowsOfCalls k cs)
 unfolding lentOf rowsOfCalls Each
@@ -94,6 +96,7 @@ entries-fit (Call.look pins n) f = tt
 entries-fit Call.offer f = tt
 entries-fit Call.take f = tt
 entries-fit Call.return f = tt
+entries-fit (Call.wake pins n) f = tt
 
 each-append : (size : ℕ) (xs ys : List ℕ) → Each (In size) xs → Each (In size) ys → Each (In size) (xs ++ ys)
 unfolding Each

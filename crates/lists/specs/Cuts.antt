@@ -36,6 +36,7 @@ pinsOfCall (Call.look pins n) = []
 pinsOfCall Call.offer = []
 pinsOfCall Call.take = []
 pinsOfCall Call.return = []
+pinsOfCall (Call.wake pins n) = []
 
 unfoldable pub pinsOfCalls : List Call → List ℕ
 pinsOfCalls [] = []

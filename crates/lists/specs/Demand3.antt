@@ -1,4 +1,4 @@
--- Demand 3: a whole list of public calls against the plain machine of document 01, and what a look ahead answers.
+-- Demand 3: a whole list of public calls against the plain machine of document 01, and what a look ahead and a wake look answer.
 -- No promise is written out here: `Learnt` is what the check reads off a function's contract, and what a caller of it learns.
 use Prim.Native.Nat.{ℕ, _-_, _*_, _≤_, _<_}
 use mathlib.Core.Path.{_≡_}
@@ -17,7 +17,7 @@ use Rattle.machine.specs.declared.OfferAnswer.{OfferAnswer}
 use Rattle.machine.specs.declared.LookAnswer.{LookAnswer}
 use Rattle.machine.specs.declared.LookAnswer.the-variants as Look
 use Rattle.machine.specs.Cycle.{cycles}
-use Rattle.machine.specs.Calls.{rises}
+use Rattle.machine.specs.Calls.{rises, offersTo}
 use Rattle.machine.specs.Lists.{Call, Value, Reply, Played, Ran, ran, run, machine, played, number, replyOf, replyOfRun, replyOfCycle, replyOfTake, replyOfRead, replyOfOffer, replyOfLook}
 use Rattle.calls.specs.Row.{answerWords}
 use Rattle.lists.specs.Script.{Script, callWords, repliesIn, Replayed}
@@ -29,6 +29,7 @@ use Rattle.c51_run.proofs.cycle.Reads as cycle-reads
 use Rattle.c51_run.proofs.jump.Reads as jump-reads
 use Rattle.c51_run.proofs.trace.Reads as trace-reads
 use Rattle.c51_run.proofs.look.Reads as look-reads
+use Rattle.c51_run.proofs.wake.Reads as wake-reads
 use Rattle.c51_interrupt.proofs.offer.Reads as offer-reads
 use Rattle.c51_interrupt.proofs.take.Reads as take-reads
 use Rattle.c51_interrupt.proofs.reti.Reads as return-reads
@@ -66,6 +67,9 @@ pub data Kept : Call → Device → Played → Type 0 where
   return : {d : Device} {r : Answer}
       → return-reads.Learnt tt (d, tt) r (d, tt)
       → Kept Call.return d (played (replyOf r) (r .device))
+  wake : {pins n : ℕ} {d : Device} {r : LookAnswer}
+      → wake-reads.Learnt tt (d, (pins, (n, tt))) r (d, (pins, (n, tt)))
+      → Kept (Call.wake pins n) d (played (replyOfLook r) d)
 
 -- A list of calls, each on the device as the one before left it: all replies, and the device at the end
 pub data Chained : List Call → Device → List Reply → Device → Type 0 where
@@ -85,35 +89,50 @@ pub record AsksNothing : Type 0 where
   pub offers : (d : Device) → offer-reads.Asked tt (d, tt)
   pub takes : (d : Device) → take-reads.Asked tt (d, tt)
   pub returns : (d : Device) → return-reads.Asked tt (d, tt)
+  pub wakes : (d : Device) (pins n : ℕ) → wake-reads.Asked tt (d, (pins, (n, tt)))
 
--- A flag rises in cycle k, counted from 1, of those that a pin byte makes from d
-abbrev pub risesIn : ℕ → ℕ → Device → Bool
-risesIn k pins d = rises pins (cycles (k - 1) pins d)
+-- What the looks ask, of the cycles that a pin byte makes from d: a flag rises in cycle k, counted from 1; an interrupt is offered
+-- after k of them
+abbrev pub risesIn : ℕ → Device → ℕ → Bool
+risesIn pins d k = rises (cycles (k - 1) pins d) (cycles k pins d)
 
--- cycle k is the first of the n in which a flag rises
-pub record First (pins n : ℕ) (d : Device) (k : ℕ) : Type 0 where
-  pub some : 1 ≤ k
+abbrev pub offeredAfter : ℕ → Device → ℕ → Bool
+offeredAfter pins d k = offersTo (cycles k pins d)
+
+-- k is the first from a start to n at which it is so
+pub record First (start n : ℕ) (so : ℕ → Bool) (k : ℕ) : Type 0 where
+  pub from : start ≤ k
   pub within : k ≤ n
-  pub here : risesIn k pins d ≡ true
-  pub before : (j : ℕ) → 1 ≤ j → j < k → risesIn j pins d ≡ false
+  pub here : so k ≡ true
+  pub before : (j : ℕ) → start ≤ j → j < k → so j ≡ false
 
--- no flag rises in any of the n
-abbrev pub Never : ℕ → ℕ → Device → Type 0
-Never pins n d = (k : ℕ) → 1 ≤ k → k ≤ n → risesIn k pins d ≡ false
+-- it is so at none of them
+abbrev pub Never : ℕ → ℕ → (ℕ → Bool) → Type 0
+Never start n so = (k : ℕ) → start ≤ k → k ≤ n → so k ≡ false
 
--- The answer k exactly when cycle k is the first in which a flag rises; none exactly when no flag rises in any of the n
-pub record Looks (pins n : ℕ) (d : Device) (answer : LookAnswer) : Type 0 where
-  pub names : (k : ℕ) → answer ≡ Look.At k → First pins n d k
-  pub named : (k : ℕ) → First pins n d k → answer ≡ Look.At k
-  pub none-said : answer ≡ Look.Nothing → Never pins n d
-  pub none-rises : Never pins n d → answer ≡ Look.Nothing
+-- The answer k exactly when k is the first; none exactly when there is none
+pub record Looks (start n : ℕ) (so : ℕ → Bool) (answer : LookAnswer) : Type 0 where
+  pub names : (k : ℕ) → answer ≡ Look.At k → First start n so k
+  pub named : (k : ℕ) → First start n so k → answer ≡ Look.At k
+  pub none-said : answer ≡ Look.Nothing → Never start n so
+  pub none-is : Never start n so → answer ≡ Look.Nothing
 
 -- The same of a reply: the value is the number k, or none
-pub record Tells (pins n : ℕ) (d : Device) (said : Value) : Type 0 where
-  pub names : (k : ℕ) → said ≡ number k → First pins n d k
-  pub named : (k : ℕ) → First pins n d k → said ≡ number k
-  pub none-said : said ≡ Value.none → Never pins n d
-  pub none-rises : Never pins n d → said ≡ Value.none
+pub record Tells (start n : ℕ) (so : ℕ → Bool) (said : Value) : Type 0 where
+  pub names : (k : ℕ) → said ≡ number k → First start n so k
+  pub named : (k : ℕ) → First start n so k → said ≡ number k
+  pub none-said : said ≡ Value.none → Never start n so
+  pub none-is : Never start n so → said ≡ Value.none
+
+-- A call at any place of any list from what reset gives the kind, 51 or 52: what its reply tells, if it passes, of the state which the
+-- machine has there
+abbrev pub ToldInLists : Call → (Device → Value → Type 0) → Type 0
+ToldInLists call Told =
+    (kind : ℕ) (a : Answer) (before after : List Call) (earlier later : List Reply) (r : Reply) (last : Device)
+    → reset-reads.Learnt tt (kind, tt) a (kind, tt)
+    → Chained (before ++ (call ∷ after)) (a .device) (earlier ++ (r ∷ later)) last
+    → length earlier ≡ length before → r .code ≡ 0
+    → Told (machine kind before .device) (r .value)
 
 -- What a replay leaves: the machine's state, its replies as they read back from the answers, and what lies past them as it was
 pub record Same (m : Ran) (n : ℕ) (last : Device) (before after : List ℕ) : Type 0 where
@@ -131,18 +150,18 @@ pub record Demand3 : Type 0 where
   -- every list makes such a chain, refused calls included
   pub every-list : (cs : List Call) (d : Device) → Chained cs d (run cs d .replies) (run cs d .device)
   pub asks-nothing : AsksNothing
-  -- what a look that passes answers
+  -- a look ahead that passes names k exactly when cycle k is the first of the n in which a flag rises, and none exactly when there
+  -- is none
   pub looks : (d : Device) (pins n : ℕ) (answer : LookAnswer)
       → look-reads.Learnt tt (d, (pins, (n, tt))) answer (d, (pins, (n, tt))) → replyOfLook answer .code ≡ 0
-      → Looks pins n d answer
-  -- a look ahead at any place of any list from what reset gives the kind, 51 or 52: if it passes, it names k exactly when cycle k is
-  -- the first in which a flag rises, of those that its pin byte makes from the state which the machine has there, and none exactly
-  -- when there is none
-  pub looks-in-lists : (kind : ℕ) {a : Answer} (before after : List Call) (pins n : ℕ) (earlier later : List Reply) (r : Reply) {last : Device}
-      → reset-reads.Learnt tt (kind, tt) a (kind, tt)
-      → Chained (before ++ (Call.look pins n ∷ after)) (a .device) (earlier ++ (r ∷ later)) last
-      → length earlier ≡ length before → r .code ≡ 0
-      → Tells pins n (machine kind before .device) (r .value)
+      → Looks 1 n (risesIn pins d) answer
+  pub looks-in-lists : (pins n : ℕ) → ToldInLists (Call.look pins n) (λ d. Tells 1 n (risesIn pins d))
+  -- a wake look that passes names k exactly when k is the first from 0 to n after which an interrupt is offered, and none exactly when
+  -- there is none
+  pub wakes : (d : Device) (pins n : ℕ) (answer : LookAnswer)
+      → wake-reads.Learnt tt (d, (pins, (n, tt))) answer (d, (pins, (n, tt))) → replyOfLook answer .code ≡ 0
+      → Looks 0 n (offeredAfter pins d) answer
+  pub wakes-in-lists : (pins n : ℕ) → ToldInLists (Call.wake pins n) (λ d. Tells 0 n (offeredAfter pins d))
   -- every list whose arguments fit their types is spelled by a script, where its slices can be addressed
   pub spelled : (cs : List Call) → Each Fits cs → Addressable 8 (length cs * callWords) → Addressable 4 (length (lentOf cs))
       → Spells (scriptOf cs) cs

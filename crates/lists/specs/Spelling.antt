@@ -4,8 +4,8 @@ use mathlib.Core.Path.{_≡_}
 use mathlib.Core.List.{List, [], _∷_, _++_}
 use lib.ListN.{length}
 use Rattle.machine.specs.Lists.{Call}
-use Rattle.machine.specs.Lists.Call.{reset, read, write, cycle, jump, trace, look, offer, take, return}
-use Rattle.calls.specs.Row.{RESET, READ, WRITE, CYCLE, JUMP, TRACE, LOOK, OFFER, TAKE, RETURN, answerWords}
+use Rattle.machine.specs.Lists.Call.{reset, read, write, cycle, jump, trace, look, offer, take, return, wake}
+use Rattle.calls.specs.Row.{RESET, READ, WRITE, CYCLE, JUMP, TRACE, LOOK, OFFER, TAKE, RETURN, WAKE, answerWords}
 use Rattle.lists.specs.Script.{Script, script, callsOf}
 
 -- What a list of numbers must be to be a slice
@@ -39,6 +39,7 @@ Fits (look pins n) = In 1 pins × In 8 n
 Fits offer = Unit {0}
 Fits take = Unit {0}
 Fits return = Unit {0}
+Fits (wake pins n) = In 1 pins × In 8 n
 
 -- How a call is spelled
 
@@ -63,6 +64,7 @@ entriesOf (look pins n) = []
 entriesOf offer = []
 entriesOf take = []
 entriesOf return = []
+entriesOf (wake pins n) = []
 
 -- each call; its entries stand after k that are lent to the calls before
 unfoldable pub spell : ℕ → Call → Spelt
@@ -76,6 +78,7 @@ spell k (look pins n) = spelt LOOK pins n
 spell k offer = spelt OFFER 0 0
 spell k take = spelt TAKE 0 0
 spell k return = spelt RETURN 0 0
+spell k (wake pins n) = spelt WAKE pins n
 
 -- its row
 abbrev pub rowOfCall : ℕ → Call → List ℕ

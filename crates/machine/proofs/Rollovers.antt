@@ -16,7 +16,7 @@ use Rattle.machine.specs.Timers.{timersStep}
 use Rattle.machine.specs.Timer2.{timer2Step}
 use Rattle.machine.specs.Serial as S
 use Rattle.machine.specs.Serial.{withSend, withReceive, withReceived, sendAt, receiveAt, withVotes, withValue, sendCounted, counterNext, rollsOver}
-use Rattle.machine.specs.Cycle.{falls, counted, ticksIn, steps, cycleOf}
+use Rattle.machine.specs.Cycle.{falls, counted, ticksIn, steps}
 use Rattle.machine.specs.Calls.{valueIn}
 use Rattle.machine.specs.Rollovers.{sendRollovers, receiveRollovers, ticksOfCycle, handedOn, sentIn, rxdIn, receivedIn, mostTicks, FewTicks, AtMostOneRollover}
 use Rattle.machine.proofs.Choices.{chosen, cond-has, by-test}
@@ -205,8 +205,8 @@ counters d (sendPosition & sendValue & sendCounter & receivePosition & receiveVa
     record { send = sendCounter; receive = receiveCounter }
 
 -- step 5 as the cycle has it
-in-cycle : (pins : ℕ) (d : Device) → cycleOf pins d .serial ≡ receivedIn pins d
-unfolding cycleOf steps S.serialStep
+in-cycle : (pins : ℕ) (d : Device) → steps d (pinsOf (d .kind) pins) .serial ≡ receivedIn pins d
+unfolding steps S.serialStep
 in-cycle pins d = refl
 
 pub one-rollover : (pins : ℕ) (d : Device) → accepted d ≡ true → AtMostOneRollover pins d

@@ -1,6 +1,7 @@
 -- Document 01, "Jumps, traces, looking ahead", "The plain machine" and "Refused calls": the answer of each call and the device after it.
 -- Refusals are judged in the table's order, but for a trace, which has its own; a refused call leaves the device as given, but for a
--- refused reset, which leaves the record of zeros.
+-- refused reset, which leaves the record of zeros. Document 02, request One: the wake look, and 10 for a write, a take and a return in
+-- power-down, after 1 and before 3, 6 and 7.
 use Prim.Native.Nat.{ℕ, zero, suc, _^_}
 use mathlib.Core.Bool.{Bool, cond}
 use mathlib.Core.List.{List, [], _∷_}
@@ -21,9 +22,10 @@ use Rattle.machine.specs.declared.LookAnswer.{LookAnswer}
 use Rattle.machine.specs.declared.LookAnswer.the-variants as Look
 use Rattle.machine.specs.Bits.{field}
 use Rattle.machine.specs.Registers.{PCON, TCON, TMOD, TL0, TL1, TH0, TH1, SCON, SBUF, IE, IP, T2CON, RCAP2L, RCAP2H, TL2, TH2, lacks, kept}
+use Rattle.machine.specs.Power.{poweredDown, awoken}
 use Rattle.machine.specs.Record.{Register, registers, accepted, pinsOk, kindOk, zeros, resetOf}
 use Rattle.machine.specs.Serial.{lineOf, writeSbuf, writeScon}
-use Rattle.machine.specs.Interrupts.{Source, offered, vectorOf, inService, taken, noneInService, returned}
+use Rattle.machine.specs.Interrupts.{Source, offered, offers, vectorOf, inService, taken, noneInService, returned}
 use Rattle.machine.specs.Interrupts.Source.{none, source}
 use Rattle.machine.specs.Flags.{flags, anyRises}
 use Rattle.machine.specs.Cycle.{cycleOf, cycles}
@@ -110,8 +112,9 @@ stored d a v =
 unfoldable pub writeAnswer : Device → ℕ → ℕ → Answer
 writeAnswer d a v =
     unless (accepted d) (refuse 1 d)
+    (cond (poweredDown (d .pcon)) (refuse 10 d)
     (cond (lacks (d .kind) a) (refuse 3 d)
-    (passed (stored d a (kept (d .kind) a v))))
+    (passed (stored d a (kept (d .kind) a v)))))
 
 -- Cycle: steps 1 to 8; it answers the line as the cycle leaves it
 abbrev pub refuseCycle : ℕ → Device → CycleAnswer
@@ -183,22 +186,49 @@ traceAnswer d es =
 
 -- Look ahead: document 01's term for asking when a flag will rise
 
--- a flag rises in the next cycle
-abbrev pub rises : ℕ → Device → Bool
-rises pins d = anyRises (flags d) (flags (cycleOf pins d))
+-- the first of the n cycles that a test of the device before it and after it finds, after k cycles that went before; or none
+unfoldable pub firstCycle : (Device → Device → Bool) → ℕ → ℕ → ℕ → Device → LookAnswer
+firstCycle finds k zero pins d = Look.Nothing
+firstCycle finds k (suc n) pins d =
+    cond (finds d (cycleOf pins d)) (Look.At (suc k)) (firstCycle finds (suc k) n pins (cycleOf pins d))
 
--- the first of the n cycles in which a flag rises, after k cycles that went before; or none
-unfoldable pub firstRise : ℕ → ℕ → ℕ → Device → LookAnswer
-firstRise k zero pins d = Look.Nothing
-firstRise k (suc n) pins d = cond (rises pins d) (Look.At (suc k)) (firstRise (suc k) n pins (cycleOf pins d))
+-- a flag rises in a cycle
+abbrev pub rises : Device → Device → Bool
+rises before after = anyRises (flags before) (flags after)
 
--- a look ahead makes the jump of its n cycles on a copy of the state, and answers the first rise or none
-unfoldable pub lookAnswer : Device → ℕ → ℕ → LookAnswer
-lookAnswer d pins n =
+-- the first of the n cycles in which a flag rises, or none
+abbrev pub firstRise : ℕ → ℕ → Device → LookAnswer
+firstRise n pins d = firstCycle rises 0 n pins d
+
+-- a look that passes answers what it found
+abbrev pub judgedLook : Device → ℕ → ℕ → LookAnswer → LookAnswer
+judgedLook d pins n found =
     unless (accepted d) (Look.Refused 1)
     (unless (pinsOk pins) (Look.Refused 4)
     (unless (leb n longest) (Look.Refused 5)
-    (firstRise 0 n pins d)))
+    found))
+
+-- a look ahead makes the jump of its n cycles on a copy of the state, and answers the first rise or none
+unfoldable pub lookAnswer : Device → ℕ → ℕ → LookAnswer
+lookAnswer d pins n = judgedLook d pins n (firstRise n pins d)
+
+-- Wake look: when the first interrupt will be offered
+
+-- an interrupt is offered to a device, and after a cycle
+abbrev pub offersTo : Device → Bool
+offersTo d = offers (d .pcon) (d .interrupts)
+
+abbrev pub wakes : Device → Device → Bool
+wakes before after = offersTo after
+
+-- the first k from 0 to n after which an interrupt is offered, or none: 0 where one is offered already, or else the first of the n
+-- cycles after which one is
+abbrev pub firstOffer : ℕ → ℕ → Device → LookAnswer
+firstOffer n pins d = cond (offersTo d) (Look.At 0) (firstCycle wakes 0 n pins d)
+
+-- it makes its cycles on a copy of the state, as a look ahead does, takes nothing, and does not ask whether the device idles
+unfoldable pub wakeAnswer : Device → ℕ → ℕ → LookAnswer
+wakeAnswer d pins n = judgedLook d pins n (firstOffer n pins d)
 
 -- Offer: the vector, or none
 unfoldable pub offerOf : Source → OfferAnswer
@@ -206,19 +236,19 @@ offerOf none = Offer.Nothing
 offerOf (source k) = Offer.Vector (vectorOf k)
 
 unfoldable pub offerAnswer : Device → OfferAnswer
-offerAnswer d = unless (accepted d) (Offer.Refused 1) (offerOf (offered (d .interrupts)))
+offerAnswer d = unless (accepted d) (Offer.Refused 1) (offerOf (offered (d .pcon) (d .interrupts)))
 
--- Take: the vector; 6 with nothing offered
+-- Take: the vector; 10 in power-down, 6 with nothing offered; it clears IDL
 
 abbrev pub withTcon : ℕ → Timers → Timers
 withTcon n t =
     record { tcon = n; tmod = t .tmod; tl0 = t .tl0; tl1 = t .tl1; th0 = t .th0; th1 = t .th1; due0 = t .due0; due1 = t .due1 }
 
-abbrev pub withInterrupts : Timers → Interrupts → Device → Device
-withInterrupts t i d =
+abbrev pub withInterrupts : ℕ → Timers → Interrupts → Device → Device
+withInterrupts pcon t i d =
     record {
       kind = d .kind;
-      pcon = d .pcon;
+      pcon = pcon;
       timers = t;
       timer2 = d .timer2;
       serial = d .serial;
@@ -236,15 +266,20 @@ takeOf d (source k) =
     record {
       code = 0;
       vector = vectorOf k;
-      device = withInterrupts (withTcon (taken k (d .timers .tcon)) (d .timers)) (inService k (d .interrupts)) d;
+      device =
+          withInterrupts (awoken (d .pcon)) (withTcon (taken k (d .timers .tcon)) (d .timers)) (inService k (d .interrupts)) d;
     }
 
 unfoldable pub takeAnswer : Device → TakeAnswer
-takeAnswer d = unless (accepted d) (refuseTake 1 d) (takeOf d (offered (d .interrupts)))
+takeAnswer d =
+    unless (accepted d) (refuseTake 1 d)
+    (cond (poweredDown (d .pcon)) (refuseTake 10 d)
+    (takeOf d (offered (d .pcon) (d .interrupts))))
 
--- Return: 7 with nothing in service
+-- Return: 10 in power-down, 7 with nothing in service
 unfoldable pub returnAnswer : Device → Answer
 returnAnswer d =
     unless (accepted d) (refuse 1 d)
+    (cond (poweredDown (d .pcon)) (refuse 10 d)
     (cond (noneInService (d .interrupts)) (refuse 7 d)
-    (passed (withInterrupts (d .timers) (returned (d .interrupts)) d)))
+    (passed (withInterrupts (d .pcon) (d .timers) (returned (d .interrupts)) d))))

@@ -1,5 +1,5 @@
--- Document 01, "Bench cards": the cards marked P, and the last card's rule on TF1, as one table with one proof.
--- Each row is a list of calls from reset, run through the plain machine. From reset, pins high.
+-- Document 01, "Bench cards": the cards marked P, and the last card's rule on TF1; then the cards of document 02's requests. They are
+-- one table with one proof. Each row is a list of calls from reset, run through the plain machine. From reset, pins high.
 use Prim.Native.Nat.{ℕ}
 use mathlib.Core.Path.{_≡_, refl}
 use mathlib.Core.Bool.{Bool, true, false, cond, _&&_}
@@ -12,15 +12,16 @@ use Rattle.machine.specs.Counting.{count13, count16, reload8, count8, ho
 use Rattle.machine.specs.Timers.{enabled, clocked, countIn, flagged, counts0, counts1, countsHigh0, pair0, high0, highOverflow0, pair1, timerFlags, timersStep}
 use Rattle.machine.specs.Timer2.{countOnce, countTimes, baudRate, countsOf2, heedsT2EX, captures, counted2, baudStep, copied2, captureStep, timer2Step}
 use Rattle.machine.specs.Serial.{halfAfter, ticks1, ticksOf, serialTicks, sendMove, sendTick, sendTicks, send, lineOf, startFound, receiveStart, receiveRolled, receiveCounted, votesAdded, bitOf, frameDone, receiveBit, receiveWork, receiveTick, receiveTicks, receiveShift, receive, serialStep, writeSbuf, receiveAsked, writeScon}
-use Rattle.machine.specs.Interrupts.{external, either, seenOf, firstOf, offered, inService, taken, returned}
+use Rattle.machine.specs.Interrupts.{external, either, seenOf, firstOf, choice, offered, inService, taken, returned}
 use Rattle.machine.specs.Flags.{flags, anyRises}
 use Rattle.machine.specs.Cycle.{falls, counted, externals, timersAfter, timer2After, ticksIn, steps as stepsOf, cycleOf, cycles}
-use Rattle.machine.specs.Calls.{resetAnswer, valueIn, registerAt, readAnswer, stored, writeAnswer, cycleAnswer, jumpAnswer, entryFault, firstBad, traceFault, traceCycles, traceAnswer, firstRise, lookAnswer, offerOf, offerAnswer, takeOf, takeAnswer, returnAnswer}
+use Rattle.machine.specs.Calls.{resetAnswer, valueIn, registerAt, readAnswer, stored, writeAnswer, cycleAnswer, jumpAnswer, entryFault, firstBad, traceFault, traceCycles, traceAnswer, firstCycle, lookAnswer, wakeAnswer, offerOf, offerAnswer, takeOf, takeAnswer, returnAnswer}
 use Rattle.machine.specs.Lists.{Call, Value, Reply, Ran, nothing, number, says, play, run, machine}
-use Rattle.machine.specs.Lists.Call.{read, write, cycle, jump, look, offer, take, return}
+use Rattle.machine.specs.Lists.Call.{reset, read, write, cycle, jump, trace, look, offer, take, return, wake}
 use Rattle.machine.specs.Lists.Value.{numbers, none}
 
--- a row: the card's place in document 01, the kind, the calls, and what has to hold of the run
+-- a row: the card's number, the kind, the calls, and what has to hold of the run. Cards 1 to 10 are numbered by their place in document
+-- 01, 11 to 16 are those of request One
 pub record Row : Type 0 where
   pub card : ℕ
   pub kind : ℕ
@@ -94,6 +95,13 @@ offers v = asked offer (gives v)
 
 abbrev offersNone : Asked
 offersNone = asked offer (says 0 none)
+
+-- a wake look over n cycles, pins high, names k
+abbrev wakes : ℕ → ℕ → Asked
+wakes n k = asked (wake high n) (gives k)
+
+abbrev wakesNone : ℕ → Asked
+wakesNone n = asked (wake high n) (says 0 none)
 
 -- a row whose replies are all given, and whose device at the end passes a test
 rowWith : (Device → Bool) → ℕ → ℕ → List Asked → Row
@@ -280,6 +288,108 @@ card10 tcon tmod tl kind =
     ∷ []
     )
 
+-- Request One. IDL with SMOD: Timer 0 goes on and its interrupt is offered; the take clears IDL and keeps SMOD
+card11 : ℕ → Row
+card11 kind =
+    rowOf 11 kind (
+    set TMOD 0x01
+    ∷ set TH0 0xff
+    ∷ set TL0 0xfe
+    ∷ set IE 0x82
+    ∷ set TCON 0x10
+    ∷ set PCON 0x81
+    ∷ wakes 9 3
+    ∷ go 3
+    ∷ offers 0x0b
+    ∷ holds PCON 0x81
+    ∷ asked take (gives 0x0b)
+    ∷ holds PCON 0x80
+    ∷ []
+    )
+
+-- PD with IDL, a timer running and an interrupt offered before: no cycle, jump or trace run moves anything, the cycle number stands, the
+-- line is answered, nothing is offered and no flag rises
+card12 : ℕ → Row
+card12 kind =
+    rowWith (λ d. eqb (d .cycle) 2) 12 kind (
+    set IE 0x82
+    ∷ set TCON 0x30
+    ∷ go 2
+    ∷ offers 0x0b
+    ∷ set PCON 0x03
+    ∷ step lowRXD
+    ∷ go 1000
+    ∷ asked (trace (0x7f000005 ∷ [])) passes
+    ∷ holds TL0 2
+    ∷ holds PCON 0x03
+    ∷ offersNone
+    ∷ asked (look high 1000) (says 0 none)
+    ∷ []
+    )
+
+-- in power-down a write is refused by 10, also at an address that the kind lacks, and so are a take with nothing offered and a return
+-- with nothing in service; a read there is still refused by 3, a pin byte by 4, a jump by 5 and a trace by 8
+card13 : ℕ → Row
+card13 kind =
+    rowWith (λ d. eqb (d .cycle) 0 && eqb (d .pcon) 0x02) 13 kind (
+    set PCON 0x02
+    ∷ asked (write 0x80 0x00) (says 10 nothing)
+    ∷ asked (write PCON 0x00) (says 10 nothing)
+    ∷ asked take (says 10 (number 0))
+    ∷ asked return (says 10 nothing)
+    ∷ asked (read 0x80) (says 3 (number 0))
+    ∷ asked (cycle 0x80) (says 4 (number 0))
+    ∷ asked (jump high 0x10000000001) (says 5 nothing)
+    ∷ asked (trace (0x7f000000 ∷ [])) (says 8 nothing)
+    ∷ []
+    )
+
+-- TF0 set by software, IE 82: a wake look names 2, after one cycle 1 and after two 0; over fewer cycles it says none
+card14 : ℕ → Row
+card14 kind =
+    rowOf 14 kind (
+    set IE 0x82
+    ∷ set TCON 0x20
+    ∷ wakes 9 2
+    ∷ wakesNone 1
+    ∷ go 1
+    ∷ wakes 1 1
+    ∷ wakesNone 0
+    ∷ go 1
+    ∷ wakes 0 0
+    ∷ wakes 9 0
+    ∷ []
+    )
+
+-- the same device in power-down: none, and no k = 0 either; a reset ends it
+card15 : ℕ → Row
+card15 kind =
+    rowWith (λ d. eqb (d .cycle) 1) 15 kind (
+    set IE 0x82
+    ∷ set TCON 0x20
+    ∷ go 2
+    ∷ set PCON 0x02
+    ∷ wakesNone 9
+    ∷ wakesNone 0
+    ∷ asked (reset kind) passes
+    ∷ holds PCON 0x00
+    ∷ step high
+    ∷ []
+    )
+
+-- a flag that rises where its interrupt is not enabled wakes nothing, and 1, 4 and 5 refuse a wake look as they do a look ahead
+card16 : ℕ → Row
+card16 kind =
+    rowOf 16 kind (
+    set TCON 0x20
+    ∷ wakesNone 9
+    ∷ asked (wake 0x80 9) (says 4 (number 0))
+    ∷ asked (wake high 0x10000000001) (says 5 (number 0))
+    ∷ asked (reset 50) (says 2 nothing)
+    ∷ asked (wake 0x80 9) (says 1 (number 0))
+    ∷ []
+    )
+
 -- on both kinds
 both : (ℕ → Row) → List Row
 both card = card 51 ∷ card 52 ∷ []
@@ -312,6 +422,12 @@ cards =
     ∷ both (card10 0x50 0x03 0xe0)
     ∷ both (card10 0x50 0x13 0x00)
     ∷ both (card10 0x50 0x23 0xff)
+    ∷ both card11
+    ∷ both card12
+    ∷ both card13
+    ∷ both card14
+    ∷ both card15
+    ∷ both card16
     ∷ []
     )
 
@@ -322,5 +438,5 @@ failing (r ∷ rs) = cond (r .test (machine (r .kind) (r .calls))) (failing rs) 
 
 -- no row fails
 cards-hold : failing cards ≡ []
-unfolding sameNumbers sameValue sameReply sameReplies rowWith card1 card2 card3 card4 baud2 card5 card5counted mode1send card6 card6half card7 card8 card8shift card9 card10 both joined cards failing table implementedIn implemented registers hiddenFields accepted pinsOf levelsOf zeros resetOf count13 count16 reload8 count8 hold enabled clocked countIn flagged counts0 counts1 countsHigh0 pair0 high0 highOverflow0 pair1 timerFlags timersStep countOnce countTimes baudRate countsOf2 heedsT2EX captures counted2 baudStep copied2 captureStep timer2Step halfAfter ticks1 ticksOf serialTicks sendMove sendTick sendTicks send lineOf startFound receiveStart receiveRolled receiveCounted votesAdded bitOf frameDone receiveBit receiveWork receiveTick receiveTicks receiveShift receive serialStep writeSbuf receiveAsked writeScon external either seenOf firstOf offered inService taken returned falls counted externals timersAfter timer2After ticksIn stepsOf cycleOf cycles resetAnswer valueIn registerAt readAnswer stored writeAnswer cycleAnswer jumpAnswer entryFault firstBad traceFault traceCycles traceAnswer flags anyRises firstRise lookAnswer offerOf offerAnswer takeOf takeAnswer returnAnswer play run machine
+unfolding sameNumbers sameValue sameReply sameReplies rowWith card1 card2 card3 card4 baud2 card5 card5counted mode1send card6 card6half card7 card8 card8shift card9 card10 card11 card12 card13 card14 card15 card16 both joined cards failing table implementedIn implemented registers hiddenFields accepted pinsOf levelsOf zeros resetOf count13 count16 reload8 count8 hold enabled clocked countIn flagged counts0 counts1 countsHigh0 pair0 high0 highOverflow0 pair1 timerFlags timersStep countOnce countTimes baudRate countsOf2 heedsT2EX captures counted2 baudStep copied2 captureStep timer2Step halfAfter ticks1 ticksOf serialTicks sendMove sendTick sendTicks send lineOf startFound receiveStart receiveRolled receiveCounted votesAdded bitOf frameDone receiveBit receiveWork receiveTick receiveTicks receiveShift receive serialStep writeSbuf receiveAsked writeScon external either seenOf firstOf choice offered inService taken returned falls counted externals timersAfter timer2After ticksIn stepsOf cycleOf cycles resetAnswer valueIn registerAt readAnswer stored writeAnswer cycleAnswer jumpAnswer entryFault firstBad traceFault traceCycles traceAnswer flags anyRises firstCycle lookAnswer wakeAnswer offerOf offerAnswer takeOf takeAnswer returnAnswer play run machine
 cards-hold = refl

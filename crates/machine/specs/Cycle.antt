@@ -1,4 +1,5 @@
--- Document 01, "One cycle, in this order": steps 1 to 8. P is the saved level of a pin, L its level now.
+-- Document 01, "One cycle, in this order": steps 1 to 8. P is the saved level of a pin, L its level now. Document 02, request One: in
+-- power-down a cycle alters nothing.
 use Prim.Native.Nat.{ℕ, zero, suc, _+_, _%_, _^_}
 use mathlib.Core.Bool.{cond, _&&_}
 use mathlib.Core.List.{List}
@@ -13,6 +14,7 @@ use Rattle.machine.specs.declared.Interrupts.{Interrupts}
 use Rattle.machine.specs.declared.Device.{Device}
 use Rattle.machine.specs.Bits.{bit}
 use Rattle.machine.specs.Registers.{RXD, INT0, INT1, T0, T1, T2, T2EX, IT0, IT1, IE0, IE1}
+use Rattle.machine.specs.Power.{poweredDown}
 use Rattle.machine.specs.Record.{pinsOf, levelsOf}
 use Rattle.machine.specs.Timers.{timersStep}
 use Rattle.machine.specs.Timer2.{timer2Step}
@@ -97,9 +99,9 @@ steps d pins =
       cycle = (d .cycle + 1) % 2 ^ 64;
     }
 
--- one cycle
+-- one cycle; in power-down it alters nothing, not even the cycle number
 unfoldable pub cycleOf : ℕ → Device → Device
-cycleOf pins d = steps d (pinsOf (d .kind) pins)
+cycleOf pins d = cond (poweredDown (d .pcon)) d (steps d (pinsOf (d .kind) pins))
 
 -- n cycles with one pin byte
 unfoldable pub cycles : ℕ → ℕ → Device → Device

@@ -1,12 +1,14 @@
--- Document 01, "One cycle", steps 6 and 8 (seen), and "Interrupts": external interrupts, offer, take, return.
+-- Document 01, "One cycle", steps 6 and 8 (seen), and "Interrupts": external interrupts, offer, take, return. Document 02, request
+-- One: nothing is offered in power-down.
 use Prim.Native.Nat.{ℕ, _+_, _*_}
-use mathlib.Core.Bool.{Bool, cond, _&&_, _||_}
+use mathlib.Core.Bool.{Bool, true, false, cond, _&&_, _||_}
 use mathlib.Core.List.{List, [], _∷_}
 use lib.Dec.{eqb}
 use lib.ListN.{getD}
 use Rattle.machine.specs.declared.Interrupts.{Interrupts}
 use Rattle.machine.specs.Bits.{bit, setBit, clearBit}
 use Rattle.machine.specs.Registers.{TF0, TF1, IE0, IE1, IT0, IT1, RI, TI, TF2, EXF2, EA}
+use Rattle.machine.specs.Power.{poweredDown}
 
 -- Step 6: with ITi = 1 a fall sets IEi; with ITi = 0, IEi = 1 - L
 unfoldable pub external : ℕ → ℕ → ℕ → ℕ → ℕ → ℕ
@@ -34,6 +36,10 @@ pub data Source : Type 0 where
   none : Source
   source : ℕ → Source
 
+abbrev pub someSource : Source → Bool
+someSource none = false
+someSource (source i) = true
+
 abbrev pub sources : List ℕ
 sources = 0 ∷ 1 ∷ 2 ∷ 3 ∷ 4 ∷ 5 ∷ []
 
@@ -55,10 +61,18 @@ orElse none b = b
 orElse (source i) b = source i
 
 -- an offer is the first such source, IP-marked ones before others; none while high is in service, only marked ones while low is
-unfoldable pub offered : Interrupts → Source
-offered i =
+unfoldable pub choice : Interrupts → Source
+choice i =
     cond (eqb (i .high) 1) none
     (orElse (firstOf (asksMarked i) sources) (cond (eqb (i .low) 1) none (firstOf (asks i) sources)))
+
+-- and in power-down nothing is offered
+unfoldable pub offered : ℕ → Interrupts → Source
+offered pcon i = cond (poweredDown pcon) none (choice i)
+
+-- an interrupt is offered
+abbrev pub offers : ℕ → Interrupts → Bool
+offers pcon i = someSource (offered pcon i)
 
 -- the vectors by polled bit
 abbrev pub vectorOf : ℕ → ℕ

@@ -1,5 +1,6 @@
 pub mod Bits
 pub mod Registers
+pub mod Power
 pub mod Record
 pub mod Counting
 pub mod Timers
@@ -11,4 +12,5 @@ pub mod Cycle
 pub mod Rollovers
 pub mod Calls
 pub mod Lists
+pub mod Sleep
 pub mod Cards

@@ -12,7 +12,7 @@ use Rattle.machine.specs.declared.OfferAnswer.{OfferAnswer}
 use Rattle.machine.specs.declared.OfferAnswer.the-variants as Offer
 use Rattle.machine.specs.declared.LookAnswer.{LookAnswer}
 use Rattle.machine.specs.declared.LookAnswer.the-variants as Look
-use Rattle.machine.specs.Calls.{resetAnswer, readAnswer, writeAnswer, cycleAnswer, jumpAnswer, traceAnswer, lookAnswer, offerAnswer, takeAnswer, returnAnswer}
+use Rattle.machine.specs.Calls.{resetAnswer, readAnswer, writeAnswer, cycleAnswer, jumpAnswer, traceAnswer, lookAnswer, offerAnswer, takeAnswer, returnAnswer, wakeAnswer}
 
 -- a call with its arguments other than the device
 pub data Call : Type 0 where
@@ -26,6 +26,7 @@ pub data Call : Type 0 where
   offer : Call
   take : Call
   return : Call
+  wake : ℕ → ℕ → Call
 
 -- what an answer carries beside its code: its numbers, as many as the call answers, or none, which is told apart from every number
 pub data Value : Type 0 where
@@ -94,6 +95,7 @@ play (look pins n) d = played (replyOfLook (lookAnswer d pins n)) d
 play offer d = played (replyOfOffer (offerAnswer d)) d
 play take d = played (replyOfTake (takeAnswer d)) (takeAnswer d .device)
 play return d = played (replyOf (returnAnswer d)) (returnAnswer d .device)
+play (wake pins n) d = played (replyOfLook (wakeAnswer d pins n)) d
 
 -- all answers to a list of calls, and the state at its end
 pub record Ran : Type 0 where

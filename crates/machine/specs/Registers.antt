@@ -10,6 +10,12 @@ use lib.Bits.{bitAnd}
 abbrev pub SMOD : ℕ
 SMOD = 7
 
+abbrev pub PD : ℕ
+PD = 1
+
+abbrev pub IDL : ℕ
+IDL = 0
+
 -- TCON
 abbrev pub TF1 : ℕ
 TF1 = 7

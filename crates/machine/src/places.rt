@@ -3,6 +3,10 @@
 // PCON.
 pub const SMOD: u8 = 7;
 
+pub const PD: u8 = 1;
+
+pub const IDL: u8 = 0;
+
 // TCON.
 pub const TF1: u8 = 7;
 

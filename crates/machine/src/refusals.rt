@@ -1,5 +1,5 @@
-// The refusals by their numbers, as document 01's table has them; a call that passes answers PASSED. Number 9 is retired and is not
-// used again: no cycle of an accepted device can meet it (proofs/Rollovers.antt).
+// The refusals by their numbers, as document 01's table has them, and document 02's requests after it; a call that passes answers
+// PASSED. Number 9 is retired and is not used again: no cycle of an accepted device can meet it (proofs/Rollovers.antt).
 pub const PASSED: u8 = 0;
 
 pub const BAD_RECORD: u8 = 1;
@@ -17,3 +17,5 @@ pub const NOTHING_OFFERED: u8 = 6;
 pub const NOTHING_IN_SERVICE: u8 = 7;
 
 pub const EMPTY_ENTRY: u8 = 8;
+
+pub const POWERED_DOWN: u8 = 10;

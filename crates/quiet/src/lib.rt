@@ -1,6 +1,8 @@
 // What lies ahead of a device: whether it is settled, and the quiet room, the cycles ahead in which nothing happens but
 // counting. `l` is the pin byte as the kind takes it.
 ghost use mathlib.Core.Path.{_≡_};
+ghost use mathlib.Core.Bool.{false};
+ghost use Rattle.machine.specs.Power.{poweredDown};
 ghost use Rattle.machine.specs.Record.{levelsOf};
 ghost use Rattle.machine.specs.Timers as Step;
 ghost use Rattle.strides.specs.Busy.{same};
@@ -64,8 +66,9 @@ fn settled_interrupts(now: u8, i: Interrupts) -> bool
     (i.seen == now) & (i.polled == now)
 }
 
-// The device is settled: a cycle without overflows finds nothing to do. The serial port is asked first.
+// The device, which is not in power-down, is settled: a cycle without overflows finds nothing to do. The serial port is asked first.
 fn settled(d: Device, l: u8) -> bool
+    requires { ⌜ poweredDown (d .pcon) ≡ false ⌝ }
     ensures { λ r. ⌜ r ≡ Stride.settledAt l d ⌝ }
 {
     let s = d.serial;
@@ -152,7 +155,8 @@ fn room2(t: Timer2) -> u64
 }
 
 // What lies ahead of a device: whether it is settled, and the room, the length of the run of cycles from it on in which
-// nothing happens but counting, at most a jump's.
+// nothing happens but counting, at most a jump's. In power-down nothing happens in any jump; a device is not called settled there, since
+// nothing counts.
 pub struct Outlook {
     pub settled: bool,
     pub room: u64,
@@ -161,6 +165,12 @@ pub struct Outlook {
 pub fn ahead(d: Device, l: u8) -> Outlook
     ensures { λ r. ⌜ (r .settled ≡ Stride.settledAt l d) × (r .room ≡ Stride.roomAt l d) ⌝ }
 {
+    if laws::powered_down(d.pcon) {
+        return Outlook {
+            settled: false,
+            room: LONGEST,
+        };
+    }
     if settled(d, l) {
         let t = d.timers;
         let u = d.timer2;

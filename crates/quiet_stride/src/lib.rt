@@ -153,11 +153,14 @@ fn stride_serial(m: u64, smod: u8, rxd: u8, s: Serial) -> Serial
     u
 }
 
-// The device after m cycles of its quiet run.
+// The device after m cycles of its quiet run: in power-down as it is.
 pub fn stride(d: Device, l: u8, m: u64) -> Device
     requires { ⌜ m ≤ Stride.roomAt l d ⌝ }
     ensures { λ r. ⌜ r ≡ Stride.strideAt m l d ⌝ }
 {
+    if laws::powered_down(d.pcon) {
+        return d;
+    }
     let t = d.timers;
     let u = d.timer2;
     let s = d.serial;

@@ -15,7 +15,7 @@ use Rattle.machine.specs.Timers.{timer0Mode, timer1Mode, counts0, counts1, coun
 use Rattle.machine.specs.Serial.{startFound}
 use Rattle.machine.specs.Calls.{longest}
 use Rattle.machine.proofs.Choices.{and-two, and-four, or-left, or-right}
-use Rattle.strides.specs.Stride.{settledAt, left, leftIn, moves1, roomTimers, moves2, room2, roomAt}
+use Rattle.strides.specs.Stride.{settledAt, left, leftIn, moves1, roomTimers, moves2, room2, awakeRoom, roomAt}
 use Rattle.strides.proofs.Settles.{Rest, settled-rest, rest-settled}
 use Rattle.reload.specs.Reload.{timer1Alone, lineRests, reloadOnly, idlesAt}
 
@@ -80,6 +80,6 @@ unfolding moves2
 room-stopped t e = simp e
 
 pub room-idle : (l : ℕ) (d : Device) → Idle l d → roomAt l d ≡ left 8 (d .timers .tl1)
-unfolding roomAt
+unfolding roomAt awakeRoom
 room-idle l d f =
-    simp (rest-settled l d (f .rest), room-alone l (d .timers) (f .alone), room-stopped (d .timer2) (f .stops)) (omega arith)
+    simp (f .rest .awake, rest-settled l d (f .rest), room-alone l (d .timers) (f .alone), room-stopped (d .timer2) (f .stops)) (omega arith)

@@ -1,27 +1,26 @@
--- Cycles in a row of a device that idles: it goes on idling, its room is what TL1 has left, and no flag rises; by
+-- Cycles in a row of a device that idles: it goes on idling, its room is what TL1 has left, and each is silent; by
 -- induction.
 use Prim.Native.Nat.{ℕ, zero, suc, _+_, _%_, _^_}
 use mathlib.Core.Path.{_≡_, refl, sym, ap, _∙_, subst}
 use mathlib.Core.Bool.{Bool, true, false, _&&_, and-false}
 use lib.Dec.{eqb}
 use Rattle.machine.specs.declared.Device.{Device}
-use Rattle.machine.specs.declared.LookAnswer.the-variants.{Nothing}
 use Rattle.machine.specs.Bits.{bit}
 use Rattle.machine.specs.Registers.{RXD, REN}
 use Rattle.machine.specs.Record.{pinsOf}
 use Rattle.machine.specs.Timers.{counts0, counts1, countsHigh0}
 use Rattle.machine.specs.Serial.{startFound}
-use Rattle.machine.specs.Flags.{flags, anyRises}
+use Rattle.machine.specs.Flags.{flags}
 use Rattle.machine.specs.Cycle.{cycleOf, cycles}
-use Rattle.machine.specs.Calls.{rises, firstRise}
 use Rattle.laws.specs.Ranges.{Ranges}
 use Rattle.machine.proofs.Choices.{chosen, and-right, and-both}
 use Rattle.cycle.proofs.Keeps.{cycle-ranges}
+use Rattle.cycle.proofs.Steps.{cycle-up}
 use Rattle.strides.specs.Stride.{timersSettled, serialSettled, othersSettled, settledAt, left, room}
-use Rattle.strides.proofs.Bools.{never-both}
+use Rattle.laws.proofs.Flags.{never-both}
 use Rattle.strides.proofs.Runs.{number-none, number-more}
 use Rattle.strides.proofs.Settles.{settled-rest, rest-settled}
-use Rattle.strides.proofs.Rises.{none-rises}
+use Rattle.strides.proofs.Silent.{Silent}
 use Rattle.reload.specs.Reload.{idlesAt, clockingOf, idlingOf, ticksBy, reloaded, withPort, putIdling, raised, idleCycle, idleCycles, idleAt}
 use Rattle.reload.specs.declared.Clocking.{Clocking}
 use Rattle.reload.specs.declared.Idling.{Idling}
@@ -70,8 +69,8 @@ module _ (pins : ℕ) (d : Device) (r : Ranges d) (f : Idle (pinsOf (d .kind) pi
       putIdling ((d .cycle + 1) % 2 ^ 64) (idleCycle (clockingOf l d) (idlingOf d)) d
 
   cycle-next : cycleOf pins d ≡ next
-  unfolding cycleOf next
-  cycle-next = steps-idle (pinsOf (d .kind) pins) d r f
+  unfolding next
+  cycle-next = cycle-up pins d (f .rest .awake) ∙ steps-idle (pinsOf (d .kind) pins) d r f
 
   next-idle : Idle (pinsOf (next .kind) pins) next
   unfolding next startFound clockingOf putIdling
@@ -80,13 +79,16 @@ module _ (pins : ℕ) (d : Device) (r : Ranges d) (f : Idle (pinsOf (d .kind) pi
       put-idle l ((d .cycle + 1) % 2 ^ 64) (idleCycle (clockingOf l d) (idlingOf d)) d f
       (cycle-starts (eqb (bit REN (d .serial .scon)) 1) (clockingOf l d) (idlingOf d) (f .starts))
 
-  cycle-idle : Idle (pinsOf (cycleOf pins d .kind) pins) (cycleOf pins d)
+  pub cycle-idle : Idle (pinsOf (cycleOf pins d .kind) pins) (cycleOf pins d)
   cycle-idle = subst (λ (e : Device). Idle (pinsOf (e .kind) pins) e) (sym cycle-next) next-idle
 
-  -- no flag rises in it
-  cycle-rises : rises pins d ≡ false
+  -- it is silent
+  next-silent : Silent d next
   unfolding flags next putIdling
-  cycle-rises = ap (λ (e : Device). anyRises (flags d) (flags e)) cycle-next ∙ none-rises (flags d)
+  next-silent = record { flags = refl; offers = refl }
+
+  pub cycle-silent : Silent d (cycleOf pins d)
+  cycle-silent = subst (Silent d) (sym cycle-next) next-silent
 
 idle-cycles : (n pins : ℕ) (d : Device) → Ranges d → Idle (pinsOf (d .kind) pins) d
     → cycles n pins d ≡ idleAt n (pinsOf (d .kind) pins) d
@@ -118,10 +120,3 @@ idle-room n pins d r e =
     let there = cycles n pins d in
     room-idle (pinsOf (there .kind) pins) there (idle-stays n pins d r (idles-idle (pinsOf (d .kind) pins) d e))
     ∙ ap (λ (u : Device). left 8 (u .timers .tl1)) (idle-law n pins d r e)
-
--- no flag rises in them
-pub idle-rises : (j n pins : ℕ) (d : Device) → Ranges d → Idle (pinsOf (d .kind) pins) d → firstRise j n pins d ≡ Nothing
-unfolding firstRise
-idle-rises j zero pins d r f = refl
-idle-rises j (suc n) pins d r f =
-    rw (cycle-rises pins d r f) (idle-rises (suc j) n pins (cycleOf pins d) (cycle-ranges d r pins) (cycle-idle pins d r f))

@@ -12,6 +12,7 @@ use Rattle.machine.specs.declared.Overflows.{Overflows}
 use Rattle.machine.specs.declared.Device.{Device}
 use Rattle.machine.specs.Bits.{bit}
 use Rattle.machine.specs.Registers.{RXD, T0, T1, T2, T2EX, TF0, TF1, IE0, IE1, RI, TI, TF2, EXF2}
+use Rattle.machine.specs.Power.{poweredDown}
 use Rattle.machine.specs.Record.{pinsOf, levelsOf}
 use Rattle.machine.specs.Timers.{timersStep, timerFlags}
 use Rattle.machine.specs.Serial.{serialTicks, serialStep}
@@ -20,47 +21,62 @@ use Rattle.machine.specs.Flags.{flags}
 use Rattle.machine.specs.Cycle.{falls, externals, timersAfter, timer2After, counted, overflowsOf, ticksIn, steps, cycleOf, cycles}
 use Rattle.machine.specs.Calls.{longest}
 use Rattle.laws.specs.Ranges.{Ranges}
-use Rattle.machine.proofs.Choices.{or-left, or-right, or-neither, not-differs}
+use Rattle.machine.proofs.Choices.{by-test, or-left, or-right, or-neither, not-differs}
+use Rattle.cycle.proofs.Steps.{cycle-up}
 use Rattle.strides.specs.Busy.{same, overflowed, overflows, working, watched, busy}
-use Rattle.strides.specs.Stride.{startNext, roomAt, strideTimers, stride2, strideSerial, strideAt, room, stride}
+use Rattle.strides.specs.Stride.{startNext, awakeRoom, strideTimers, stride2, strideSerial, awakeStride, room, stride}
 use Rattle.strides.proofs.Bools.{same-equal, same-self}
 use Rattle.strides.proofs.Settles.{seenIn, rest-settled, no-fall, externals-level0, externals-level1}
 use Rattle.strides.proofs.Timers.{no-flags}
 use Rattle.strides.proofs.Serial.{start-found}
 use Rattle.strides.proofs.Runs.{cycles-none, cycles-ranges}
 use Rattle.strides.proofs.Overflows.{timers-room-left, timer2-room-left}
-use Rattle.strides.proofs.Strides.{overflows-quiet, room-rest, room-timers, room-timer2, quiet-cycle, room-left, room-back, stride-law}
+use Rattle.strides.proofs.Strides.{overflows-quiet, down-room, up-room, up-rest, up-stride, room-timers, room-timer2, quiet-cycle, room-left, room-back, stride-law}
 
 -- Room: the next cycle is not busy
 
+-- no cycle in power-down is
+down-idle : (pins : ℕ) (d : Device) → poweredDown (d .pcon) ≡ true → busy pins d ≡ false
+unfolding busy
+down-idle pins d down = rw down
+
 module _ (pins : ℕ) (d : Device) (r : Ranges d) (h : 1 ≤ room pins d) where
-  no-overflow : overflows pins d ≡ false
-  unfolding overflows room
-  no-overflow =
-      let l = pinsOf (d .kind) pins in
-      ap overflowed (overflows-quiet l d r (room-rest pins d h) (room-timers 1 l d h) (room-timer2 1 l d h))
+  module _ (up : poweredDown (d .pcon) ≡ false) where
+    no-overflow : overflows pins d ≡ false
+    unfolding overflows
+    no-overflow =
+        let l = pinsOf (d .kind) pins in
+        let k = rw (up-room pins d up) at h in
+        ap overflowed (overflows-quiet l d r (up-rest pins d up h) (room-timers 1 l d k) (room-timer2 1 l d k))
 
-  resting : working d ≡ false
-  unfolding working
-  resting = let s = room-rest pins d h in simp (s .sends, s .receives)
+    resting : working d ≡ false
+    unfolding working
+    resting = let s = up-rest pins d up h in simp (s .sends, s .receives)
 
-  -- a stride leaves the positions and what is watched
-  watched-stays : watched (cycleOf pins d) ≡ watched d
-  unfolding watched flags stride strideAt strideTimers stride2 strideSerial
-  watched-stays = ap watched (quiet-cycle pins d r h)
+    quiet-up : cycleOf pins d ≡ awakeStride 1 (pinsOf (d .kind) pins) d
+    quiet-up = quiet-cycle pins d r h ∙ up-stride pins d up 1
 
-  resting-after : working (cycleOf pins d) ≡ false
-  unfolding working stride strideAt strideSerial
-  resting-after = ap working (quiet-cycle pins d r h) ∙ resting
+    -- a stride leaves the positions and what is watched
+    watched-stays : watched (cycleOf pins d) ≡ watched d
+    unfolding watched flags awakeStride strideTimers stride2 strideSerial
+    watched-stays = ap watched quiet-up
+
+    resting-after : working (cycleOf pins d) ≡ false
+    unfolding working awakeStride strideSerial
+    resting-after = ap working quiet-up ∙ resting
+
+    up-idle : busy pins d ≡ false
+    unfolding busy
+    up-idle =
+        rw up
+        (or-neither (overflows pins d || working d) _ (or-neither (overflows pins d) (working d) no-overflow resting)
+        (or-neither (working (cycleOf pins d)) _ resting-after
+        (ap (λ (xs : List ℕ). not (same (watched d) xs)) watched-stays ∙ ap not (same-self (watched d)))))
 
   pub room-idle : busy pins d ≡ false
-  unfolding busy
-  room-idle =
-      or-neither (overflows pins d || working d) _ (or-neither (overflows pins d) (working d) no-overflow resting)
-      (or-neither (working (cycleOf pins d)) _ resting-after
-      (ap (λ (xs : List ℕ). not (same (watched d) xs)) watched-stays ∙ ap not (same-self (watched d))))
+  room-idle = by-test (poweredDown (d .pcon)) (down-idle pins d) up-idle
 
--- A cycle that is not busy: there is room
+-- A cycle that is not busy: there is room. In power-down there is; here the device is out of it
 
 -- no timer overflowed
 record None (o : Overflows) : Type 0 where
@@ -138,20 +154,23 @@ same-watched d e h =
 
 -- the parts of busy
 record Still (pins : ℕ) (d : Device) : Type 0 where
+  up : poweredDown (d .pcon) ≡ false
   overflow : None (overflowsOf (counted d (pinsOf (d .kind) pins)))
   before : Resting d
-  after : Resting (cycleOf pins d)
-  alike : Alike d (cycleOf pins d)
+  after : Resting (steps d (pinsOf (d .kind) pins))
+  alike : Alike d (steps d (pinsOf (d .kind) pins))
 
-idle-still : (pins : ℕ) (d : Device) → busy pins d ≡ false → Still pins d
+idle-still : (pins : ℕ) (d : Device) → poweredDown (d .pcon) ≡ false → busy pins d ≡ false → Still pins d
 unfolding busy overflows
-idle-still pins d idle =
-    let e = cycleOf pins d in
+idle-still pins d up idle =
+    let e = steps d (pinsOf (d .kind) pins) in
     let now = overflows pins d || working d in
     let alike = same (watched d) (watched e) in
-    let first = or-left now (working e || not alike) idle in
-    let last = or-right now (working e || not alike) idle in
+    let parts = rw (up, cycle-up pins d up) at idle in
+    let first = or-left now (working e || not alike) parts in
+    let last = or-right now (working e || not alike) parts in
     record {
+      up = up;
       overflow = none-overflowed _ (or-left (overflows pins d) (working d) first);
       before = none-working d (or-right (overflows pins d) (working d) first);
       after = none-working e (or-left (working e) (not alike) last);
@@ -164,7 +183,7 @@ module _ (pins : ℕ) (d : Device) (r : Ranges d) (still : Still pins d) where
   l = pinsOf (d .kind) pins
 
   levels : d .levels ≡ levelsOf l
-  unfolding cycleOf steps l
+  unfolding steps l
   levels = still .alike .levels
 
   -- no pin falls
@@ -172,15 +191,15 @@ module _ (pins : ℕ) (d : Device) (r : Ranges d) (still : Still pins d) where
   fallen k e = ap (λ (saved : List ℕ). falls saved l k) levels ∙ e
 
   due0 : d .timers .due0 ≡ 0
-  unfolding cycleOf steps timersAfter levelsOf l
+  unfolding steps timersAfter levelsOf l
   due0 = still .alike .due0 ∙ fallen T0 (no-fall l T0 refl)
 
   due1 : d .timers .due1 ≡ 0
-  unfolding cycleOf steps timersAfter levelsOf l
+  unfolding steps timersAfter levelsOf l
   due1 = still .alike .due1 ∙ fallen T1 (no-fall l T1 refl)
 
   due2 : d .timer2 .due2 ≡ 0
-  unfolding cycleOf steps timer2After levelsOf l
+  unfolding steps timer2After levelsOf l
   due2 = still .alike .due2 ∙ fallen T2 (no-fall l T2 refl)
 
   -- step 2 sets no flag
@@ -189,33 +208,34 @@ module _ (pins : ℕ) (d : Device) (r : Ranges d) (still : Still pins d) where
   same-tcon =
       (λ i. timerFlags (d .timers) (still .overflow .timer0 i) (still .overflow .th0 i) (still .overflow .timer1 i)) ∙ no-flags (d .timers)
 
-  tcon-after : cycleOf pins d .timers .tcon ≡ externals (levelsOf l) l (d .timers .tcon)
-  unfolding cycleOf steps timersAfter l
+  tcon-after : steps d l .timers .tcon ≡ externals (levelsOf l) l (d .timers .tcon)
+  unfolding steps timersAfter l
   tcon-after = λ i. externals (levels i) l (same-tcon i)
 
   -- the flags stay, and so does what seen takes of them
-  same-seen : seenIn d ≡ seenIn (cycleOf pins d)
-  unfolding seenOf
+  same-seen : seenIn d ≡ seenIn (steps d l)
+  unfolding seenOf l
   same-seen =
       let a = still .alike in
       λ i. a .ie0 i + a .tf0 i * 2 + a .ie1 i * 4 + a .tf1 i * 8 + either (a .ri i) (a .ti i) * 16 + either (a .tf2 i) (a .exf2 i) * 32
 
   seen : d .interrupts .seen ≡ seenIn d
-  unfolding cycleOf steps timer2After
+  unfolding steps timer2After l
   seen = still .alike .seen ∙ sym same-seen
 
   polled : d .interrupts .polled ≡ seenIn d
-  unfolding cycleOf steps
+  unfolding steps
   polled = still .alike .polled ∙ seen
 
   -- a start bit that waits would be found
-  found : startNext (bit RXD l) (d .serial) ≡ true → cycleOf pins d .serial .receive .position ≡ 1
-  unfolding cycleOf steps ticksIn l
+  found : startNext (bit RXD l) (d .serial) ≡ true → steps d l .serial .receive .position ≡ 1
+  unfolding steps ticksIn l
   found w =
       (λ i. serialStep (serialTicks (d .pcon) (d .timer2 .t2con) (d .serial) (still .overflow .timer1 i) (still .overflow .timer2 i)) (bit RXD l) (d .serial) .receive .position)
       ∙ start-found (d .pcon) (d .timer2 .t2con) (d .serial) (r .serial) (bit RXD l) (still .before .sends) (still .before .receives) w
 
   starts : startNext (bit RXD l) (d .serial) ≡ false
+  unfolding l
   starts = go (startNext (bit RXD l) (d .serial)) refl
     where
       go : (w : Bool) → startNext (bit RXD l) (d .serial) ≡ w → w ≡ false
@@ -223,22 +243,26 @@ module _ (pins : ℕ) (d : Device) (r : Ranges d) (still : Still pins d) where
       go false e = refl
 
   still-room : 1 ≤ room pins d
-  unfolding room roomAt l counted
+  unfolding awakeRoom l counted
   still-room =
       let o = still .overflow in
-      rw (rest-settled l d (record {
-        levels = levels;
-        due0 = due0;
-        due1 = due1;
-        due2 = due2;
-        level0 = externals-level0 l (d .timers .tcon) (still .alike .ie0 ∙ ap (bit IE0) tcon-after);
-        level1 = externals-level1 l (d .timers .tcon) (still .alike .ie1 ∙ ap (bit IE1) tcon-after);
-        sends = still .before .sends;
-        receives = still .before .receives;
-        starts = starts;
-        seen = seen;
-        polled = polled;
-      }))
+      rw (
+        up-room pins d (still .up),
+        rest-settled l d (record {
+          awake = still .up;
+          levels = levels;
+          due0 = due0;
+          due1 = due1;
+          due2 = due2;
+          level0 = externals-level0 l (d .timers .tcon) (still .alike .ie0 ∙ ap (bit IE0) tcon-after);
+          level1 = externals-level1 l (d .timers .tcon) (still .alike .ie1 ∙ ap (bit IE1) tcon-after);
+          sends = still .before .sends;
+          receives = still .before .receives;
+          starts = starts;
+          seen = seen;
+          polled = polled;
+        }),
+      )
       (le-min (timers-room-left l (d .timers) (o .timer0) (o .th0) (o .timer1))
       (timer2-room-left (d .timer2) (falls (d .levels) l T2EX) (o .timer2)))
 
@@ -249,7 +273,9 @@ no-room pins d r h = go (busy pins d) refl
   where
     go : (x : Bool) → busy pins d ≡ x → x ≡ true
     go true e = refl
-    go false e = absurd (omega (arith, still-room pins d r (idle-still pins d e)))
+    go false e =
+        by-test (poweredDown (d .pcon)) (λ down. absurd (omega (arith, down-room pins d down)))
+        (λ up. absurd (omega (arith, still-room pins d r (idle-still pins d up e))))
 
 module _ (pins : ℕ) (d : Device) (r : Ranges d) where
   -- the room after m cycles of the run

@@ -10,5 +10,5 @@ pub mod Runs
 pub mod Strides
 pub mod Overflows
 pub mod Exact
-pub mod Rises
+pub mod Silent
 pub mod Coded

@@ -4,7 +4,9 @@ use mathlib.Core.Path.{_≡_, refl, sym, ap, _∙_}
 use native.Mathlib.Nat.{zero-add, suc-add, add-zero, add-sub-of-le, mod-add-mod, mod-eq-of-lt}
 use native.Mathlib.Omega.{arith}
 use Rattle.machine.specs.declared.Device.{Device}
+use Rattle.machine.specs.Power.{poweredDown}
 use Rattle.machine.specs.Cycle.{steps, cycleOf, cycles}
+use Rattle.machine.proofs.Choices.{chosen}
 use Rattle.laws.specs.Ranges.{Ranges}
 use Rattle.cycle.proofs.Keeps.{cycle-ranges}
 
@@ -29,10 +31,14 @@ crossed-on {m} {n} pins d h e i =
     ap (cycles (n - m) pins) e ∙ (sym (cycles-add m (n - m) pins d) ∙ (ap (λ (k : ℕ). cycles k pins d) (add-sub-of-le h) ∙ i))
 
 -- the kind stays, and so do the pins that it takes
+pub cycle-kind : (pins : ℕ) (d : Device) → cycleOf pins d .kind ≡ d .kind
+unfolding cycleOf steps
+cycle-kind pins d = chosen (λ (e : Device). e .kind ≡ d .kind) (poweredDown (d .pcon)) d _ refl refl
+
 pub cycles-kind : (n pins : ℕ) (d : Device) → cycles n pins d .kind ≡ d .kind
-unfolding cycles cycleOf steps
+unfolding cycles
 cycles-kind zero pins d = refl
-cycles-kind (suc n) pins d = cycles-kind n pins (cycleOf pins d)
+cycles-kind (suc n) pins d = cycles-kind n pins (cycleOf pins d) ∙ cycle-kind pins d
 
 -- the cycle number after none, and after m more than one
 pub number-none : (c : ℕ) → c < 2 ^ 64 → (c + 0) % 2 ^ 64 ≡ c

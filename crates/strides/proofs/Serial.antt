@@ -19,7 +19,7 @@ use Rattle.receiver.proofs.Quiet as Quiet
 use Rattle.serial.proofs.Sending.{sendCounter}
 use Rattle.serial.proofs.Quiet.{rest-send-ticks, rest-shift, rest-no-ticks, rest-ticks}
 use Rattle.strides.specs.Stride.{startNext, serialSettled, ticks2, sampled, strideSerial}
-use Rattle.strides.proofs.Bools.{never-both}
+use Rattle.laws.proofs.Flags.{never-both}
 
 -- A stride is another send counter and another last line sample
 

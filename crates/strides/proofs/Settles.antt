@@ -10,6 +10,7 @@ use borrow.Author.Tests.{eq-eqb, eqb-true, eqb-false, not-true}
 use Rattle.machine.specs.declared.Device.{Device}
 use Rattle.machine.specs.Bits.{bit, setBit, clearBit, putBit}
 use Rattle.machine.specs.Registers.{RXD, INT0, INT1, IT0, IT1, IE0, IE1}
+use Rattle.machine.specs.Power.{poweredDown}
 use Rattle.machine.specs.Record.{levelsOf}
 use Rattle.machine.specs.Interrupts.{external, seenOf}
 use Rattle.machine.specs.Cycle.{falls, externals}
@@ -17,7 +18,8 @@ use Rattle.strides.specs.Busy.{same}
 use Rattle.strides.specs.Stride.{levelSettled, timersSettled, startNext, serialSettled, interruptsSettled, othersSettled, settledAt}
 use Rattle.laws.proofs.Bits.{bit-below, bit-set, bit-set-other, bit-put, bit-put-other, clear-put, set-same, put-same}
 use Rattle.machine.proofs.Choices.{chosen, and-two, and-four}
-use Rattle.strides.proofs.Bools.{same-equal, same-self, never-both}
+use Rattle.strides.proofs.Bools.{same-equal, same-self}
+use Rattle.laws.proofs.Flags.{never-both}
 
 -- seen as the flags have it
 abbrev pub seenIn : Device → ℕ
@@ -25,6 +27,7 @@ seenIn d = seenOf (d .timers .tcon) (d .serial .scon) (d .timer2 .t2con)
 
 -- the facts of a settled device
 pub record Rest (l : ℕ) (d : Device) : Type 0 where
+  pub awake : poweredDown (d .pcon) ≡ false
   pub levels : d .levels ≡ levelsOf l
   pub due0 : d .timers .due0 ≡ 0
   pub due1 : d .timers .due1 ≡ 0
@@ -45,15 +48,17 @@ settled-rest l d e =
     let i = d .interrupts in
     let starting = startNext (bit RXD l) s in
     let whole = and-two (serialSettled (bit RXD l) s) (othersSettled l d) e in
+    let up = and-two (not (poweredDown (d .pcon))) _ (whole .1) in
     let serial = and-two (eqb (s .send .position) 0 && eqb (s .receive .position) 0) (not starting) (whole .0) in
     let rests = and-two (eqb (s .send .position) 0) (eqb (s .receive .position) 0) (serial .0) in
     let others =
-    and-four (same (d .levels) (levelsOf l)) (timersSettled l t) (eqb (d .timer2 .due2) 0) (interruptsSettled (seenIn d) i) (whole .1) in
+    and-four (same (d .levels) (levelsOf l)) (timersSettled l t) (eqb (d .timer2 .due2) 0) (interruptsSettled (seenIn d) i) (up .1) in
     let timers =
     and-four (eqb (t .due0) 0) (eqb (t .due1) 0) (levelSettled IT0 IE0 (bit INT0 l) (t .tcon))
     (levelSettled IT1 IE1 (bit INT1 l) (t .tcon)) (others .0 .1) in
     let last = and-two (eqb (i .seen) (seenIn d)) (eqb (i .polled) (seenIn d)) (others .1 .1) in
     record {
+      awake = not-true (poweredDown (d .pcon)) (up .0);
       levels = same-equal (d .levels) (levelsOf l) (others .0 .0);
       due0 = eqb-true (t .due0) 0 (timers .0 .0);
       due1 = eqb-true (t .due1) 0 (timers .0 .1);
@@ -71,6 +76,7 @@ pub rest-settled : (l : ℕ) (d : Device) → Rest l d → settledAt l d ≡ tru
 unfolding settledAt othersSettled timersSettled serialSettled
 rest-settled l d r =
     simp (
+      r .awake,
       r .levels,
       same-self (levelsOf l),
       r .due0,

@@ -9,14 +9,17 @@ use Rattle.machine.specs.declared.Counted.{Counted}
 use Rattle.machine.specs.declared.Device.{Device}
 use Rattle.machine.specs.Bits.{bit}
 use Rattle.machine.specs.Registers.{RXD, T2EX, SMOD}
+use Rattle.machine.specs.Power.{poweredDown}
 use Rattle.machine.specs.Record.{pinsOf, levelsOf}
 use Rattle.machine.specs.Timer2.{timer2Step}
 use Rattle.machine.specs.Cycle.{falls, counted, overflowsOf, ticksIn, steps, cycleOf, cycles}
 use Rattle.machine.specs.Calls.{longest}
 use Rattle.laws.specs.Ranges.{Ranges}
-use Rattle.machine.proofs.Choices.{chosen, and-two, and-both}
+use Rattle.machine.proofs.Choices.{chosen, by-test, and-two, and-both}
 use Rattle.cycle.proofs.Keeps.{cycle-ranges}
-use Rattle.strides.specs.Stride.{timersSettled, serialSettled, othersSettled, settledAt, roomTimers, room2, roomAt, strideTimers, stride2, strideSerial, withParts, strideAt, room, stride}
+use Rattle.cycle.proofs.Steps.{cycle-up}
+use Rattle.laws.proofs.Sleep.{cycle-down}
+use Rattle.strides.specs.Stride.{timersSettled, serialSettled, othersSettled, settledAt, roomTimers, room2, awakeRoom, roomAt, strideTimers, stride2, strideSerial, withParts, awakeStride, strideAt, room, stride}
 use Rattle.strides.proofs.Settles.{Rest, settled-rest, no-fall}
 use Rattle.strides.proofs.Steps.{fallen, steps-rest}
 use Rattle.strides.proofs.Runs.{number-none, number-more}
@@ -46,66 +49,66 @@ module _ (l : ℕ) (d : Device) (r : Ranges d) (s : Rest l d) (h : 1 ≤ roomTim
   unfolding quietCounted
   overflows-quiet = ap overflowsOf counted-quiet
 
-  quiet-steps : steps d l ≡ strideAt 1 l d
-  unfolding quietCounted ticksIn strideAt strideTimers stride2 strideSerial
+  quiet-steps : steps d l ≡ awakeStride 1 l d
+  unfolding quietCounted ticksIn awakeStride strideTimers stride2 strideSerial
   quiet-steps =
       steps-rest l d s (quietCounted l d) _ counted-quiet
       (quiet-serial (d .pcon) (d .timer2 .t2con) (d .serial) (r .serial) (bit RXD l) (s .sends) (s .receives) (s .starts))
       (record { tcon = refl; due0 = refl; due1 = refl; t2con = refl; due2 = refl; scon = refl })
 
--- Strides
+-- Strides out of power-down
 
 -- the room of a settled device
-room-units : (l : ℕ) (d : Device) → settledAt l d ≡ true → roomAt l d ≡ min (roomTimers l (d .timers)) (room2 (d .timer2))
-unfolding roomAt
+room-units : (l : ℕ) (d : Device) → settledAt l d ≡ true → awakeRoom l d ≡ min (roomTimers l (d .timers)) (room2 (d .timer2))
+unfolding awakeRoom
 room-units l d e = simp e
 
 module _ (m l : ℕ) (d : Device) where
-  settled-stays : settledAt l d ≡ true → settledAt l (strideAt m l d) ≡ true
-  unfolding settledAt othersSettled timersSettled strideAt strideTimers stride2 strideSerial
+  settled-stays : settledAt l d ≡ true → settledAt l (awakeStride m l d) ≡ true
+  unfolding settledAt othersSettled timersSettled awakeStride strideTimers stride2 strideSerial
   settled-stays e =
       let parts = and-two (serialSettled (bit RXD l) (d .serial)) (othersSettled l d) e in
       and-both _ (othersSettled l d) (serial-settled (bit SMOD (d .pcon)) (bit RXD l) (d .serial) m (parts .0)) (parts .1)
 
   -- the room bounds that of each unit
-  room-most : roomAt l d ≤ min (roomTimers l (d .timers)) (room2 (d .timer2))
-  unfolding roomAt
+  room-most : awakeRoom l d ≤ min (roomTimers l (d .timers)) (room2 (d .timer2))
+  unfolding awakeRoom
   room-most =
       let least = min (roomTimers l (d .timers)) (room2 (d .timer2)) in
       chosen (λ (n : ℕ). n ≤ least) (settledAt l d) least 0 (le-refl least) (omega arith)
 
-  pub room-timers : m ≤ roomAt l d → m ≤ roomTimers l (d .timers)
+  pub room-timers : m ≤ awakeRoom l d → m ≤ roomTimers l (d .timers)
   room-timers h = le-trans h (le-trans room-most (min-le-left _ _))
 
-  pub room-timer2 : m ≤ roomAt l d → m ≤ room2 (d .timer2)
+  pub room-timer2 : m ≤ awakeRoom l d → m ≤ room2 (d .timer2)
   room-timer2 h = le-trans h (le-trans room-most (min-le-right _ _))
 
   -- strides add up
-  more-at : strideAt m l (strideAt 1 l d) ≡ strideAt (suc m) l d
-  unfolding strideAt
+  more-at : awakeStride m l (awakeStride 1 l d) ≡ awakeStride (suc m) l d
+  unfolding awakeStride
   more-at =
       λ i. withParts (number-more m (d .cycle) i) (timers-more l (d .timers) m i) (timer2-more (d .timer2) m i)
       (serial-more (bit SMOD (d .pcon)) (bit RXD l) (d .serial) m i) d
 
 -- room for k cycles after m: room for k after a stride of m
-left-at : (k m l : ℕ) (d : Device) → settledAt l d ≡ true → k + m ≤ roomAt l d → k ≤ roomAt l (strideAt m l d)
-unfolding strideAt
+left-at : (k m l : ℕ) (d : Device) → settledAt l d ≡ true → k + m ≤ awakeRoom l d → k ≤ awakeRoom l (awakeStride m l d)
+unfolding awakeStride
 left-at k m l d e h =
-    rw (room-units l (strideAt m l d) (settled-stays m l d e))
+    rw (room-units l (awakeStride m l d) (settled-stays m l d e))
     (le-min (timers-left l (d .timers) k m (room-timers (k + m) l d h)) (timer2-left (d .timer2) k m (room-timer2 (k + m) l d h)))
 
 -- and the other way round, within a jump
 back-at : (k m l : ℕ) (d : Device) → settledAt l d ≡ true → 1 ≤ k → k + m ≤ longest
-    → k ≤ roomAt l (strideAt m l d) → k + m ≤ roomAt l d
-unfolding strideAt
+    → k ≤ awakeRoom l (awakeStride m l d) → k + m ≤ awakeRoom l d
+unfolding awakeStride
 back-at k m l d e p q h =
-    let r = rw (room-units l (strideAt m l d) (settled-stays m l d e)) at h in
+    let r = rw (room-units l (awakeStride m l d) (settled-stays m l d e)) at h in
     rw (room-units l d e)
     (le-min (timers-back l (d .timers) k m p q (le-trans r (min-le-left _ _))) (timer2-back (d .timer2) k m p q (le-trans r (min-le-right _ _))))
 
 -- a device with room is settled
-room-settled : (l : ℕ) (d : Device) → 1 ≤ roomAt l d → settledAt l d ≡ true
-unfolding roomAt
+room-settled : (l : ℕ) (d : Device) → 1 ≤ awakeRoom l d → settledAt l d ≡ true
+unfolding awakeRoom
 room-settled l d = go (settledAt l d)
   where
     go : (b : Bool) → 1 ≤ cond b (min (roomTimers l (d .timers)) (room2 (d .timer2))) 0 → b ≡ true
@@ -113,8 +116,8 @@ room-settled l d = go (settledAt l d)
     go false h = absurd (omega arith)
 
 -- no cycle is no stride
-none-at : (l : ℕ) (d : Device) → Ranges d → strideAt 0 l d ≡ d
-unfolding strideAt
+none-at : (l : ℕ) (d : Device) → Ranges d → awakeStride 0 l d ≡ d
+unfolding awakeStride
 none-at l d r =
     λ i. withParts (number-none (d .cycle) (r .cycle) i) (timers-none l (d .timers) (r .timers .tl0) (r .timers .tl1) i)
     (timer2-none (d .timer2) (r .timer2 .tl2) i) (serial-none (bit SMOD (d .pcon)) (bit RXD l) (d .serial) (r .serial) i) d
@@ -122,37 +125,79 @@ none-at l d r =
 -- The three facts, and the law
 
 module _ (pins : ℕ) (d : Device) where
-  pub room-rest : 1 ≤ room pins d → Rest (pinsOf (d .kind) pins) d
-  unfolding room
-  room-rest h = settled-rest (pinsOf (d .kind) pins) d (room-settled (pinsOf (d .kind) pins) d h)
+  -- in power-down
+  module _ (t : poweredDown (d .pcon) ≡ true) where
+    pub down-room : room pins d ≡ longest
+    unfolding room roomAt
+    down-room = rw t
+
+    pub down-stride : (m : ℕ) → stride m pins d ≡ d
+    unfolding stride strideAt
+    down-stride m = rw t
+
+  -- where there is no room, it is out of power-down
+  pub no-room-up : room pins d ≡ 0 → poweredDown (d .pcon) ≡ false
+  no-room-up z = by-test (poweredDown (d .pcon)) (λ t. absurd (omega (arith, down-room t))) (λ f. f)
+
+  -- out of it
+  module _ (f : poweredDown (d .pcon) ≡ false) where
+    pub up-room : room pins d ≡ awakeRoom (pinsOf (d .kind) pins) d
+    unfolding room roomAt
+    up-room = rw f
+
+    pub up-stride : (m : ℕ) → stride m pins d ≡ awakeStride m (pinsOf (d .kind) pins) d
+    unfolding stride strideAt
+    up-stride m = rw f
+
+    -- and after a stride
+    up-on : (m : ℕ) → room pins (stride m pins d) ≡ awakeRoom (pinsOf (d .kind) pins) (awakeStride m (pinsOf (d .kind) pins) d)
+    unfolding room roomAt awakeStride
+    up-on m = ap (room pins) (up-stride m) ∙ rw f
+
+    up-more : (m : ℕ) → stride m pins (awakeStride 1 (pinsOf (d .kind) pins) d) ≡ awakeStride (suc m) (pinsOf (d .kind) pins) d
+    unfolding stride strideAt awakeStride
+    up-more m = rw f (more-at m (pinsOf (d .kind) pins) d)
+
+    pub up-rest : 1 ≤ room pins d → Rest (pinsOf (d .kind) pins) d
+    up-rest h = settled-rest (pinsOf (d .kind) pins) d (room-settled (pinsOf (d .kind) pins) d (rw up-room at h))
 
   pub quiet-cycle : Ranges d → 1 ≤ room pins d → cycleOf pins d ≡ stride 1 pins d
-  unfolding cycleOf room stride
   quiet-cycle r h =
+      by-test (poweredDown (d .pcon)) (λ t. cycle-down d t pins ∙ sym (down-stride t 1))
+      (λ f.
       let l = pinsOf (d .kind) pins in
-      quiet-steps l d r (room-rest h) (room-timers 1 l d h) (room-timer2 1 l d h)
+      let k = rw (up-room f) at h in
+      cycle-up pins d f ∙ (quiet-steps l d r (up-rest f h) (room-timers 1 l d k) (room-timer2 1 l d k) ∙ sym (up-stride f 1)))
 
   pub room-left : (k m : ℕ) → k + m ≤ room pins d → k ≤ room pins (stride m pins d)
-  unfolding room stride strideAt
-  room-left zero m h = omega arith
-  room-left (suc k) m h =
-      let l = pinsOf (d .kind) pins in
-      left-at (suc k) m l d (room-settled l d (omega arith)) h
+  room-left k m h =
+      by-test (poweredDown (d .pcon)) (λ t. rw (down-stride t m) (omega arith))
+      (λ f. rw (up-on f m) (go k (rw (up-room f) at h)))
+    where
+      go : (k : ℕ) → k + m ≤ awakeRoom (pinsOf (d .kind) pins) d
+          → k ≤ awakeRoom (pinsOf (d .kind) pins) (awakeStride m (pinsOf (d .kind) pins) d)
+      go zero h = omega arith
+      go (suc k) h =
+          let l = pinsOf (d .kind) pins in
+          left-at (suc k) m l d (room-settled l d (omega arith)) h
 
   pub room-back : (k m : ℕ) → 1 ≤ m → m ≤ room pins d → 1 ≤ k → k + m ≤ longest
       → k ≤ room pins (stride m pins d) → k + m ≤ room pins d
-  unfolding room stride strideAt
-  room-back k m f g p q h =
+  room-back k m some g p q h =
+      by-test (poweredDown (d .pcon)) (λ t. rw (down-room t) q)
+      (λ f.
       let l = pinsOf (d .kind) pins in
-      back-at k m l d (room-settled l d (omega arith)) p q h
+      let here = rw (up-room f) at g in
+      rw (up-room f) (back-at k m l d (room-settled l d (omega arith)) p q (rw (up-on f m) at h)))
 
   stride-more : (m : ℕ) → stride m pins (stride 1 pins d) ≡ stride (suc m) pins d
-  unfolding stride strideAt
-  stride-more m = more-at m (pinsOf (d .kind) pins) d
+  stride-more m =
+      by-test (poweredDown (d .pcon)) (λ t. ap (stride m pins) (down-stride t 1) ∙ (down-stride t m ∙ sym (down-stride t (suc m))))
+      (λ f. ap (stride m pins) (up-stride f 1) ∙ (up-more f m ∙ sym (up-stride f (suc m))))
 
   stride-none : Ranges d → stride 0 pins d ≡ d
-  unfolding stride
-  stride-none r = none-at (pinsOf (d .kind) pins) d r
+  stride-none r =
+      by-test (poweredDown (d .pcon)) (λ t. down-stride t 0) (λ f. up-stride f 0 ∙ none-at (pinsOf (d .kind) pins) d r)
 
   -- a quiet cycle leaves the rest of the room
   pub cycle-room : Ranges d → (m : ℕ) → suc m ≤ room pins d → m ≤ room pins (cycleOf pins d)

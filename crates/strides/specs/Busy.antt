@@ -5,6 +5,7 @@ use mathlib.Core.List.{List, [], _∷_, _++_}
 use lib.Dec.{eqb}
 use Rattle.machine.specs.declared.Overflows.{Overflows}
 use Rattle.machine.specs.declared.Device.{Device}
+use Rattle.machine.specs.Power.{poweredDown}
 use Rattle.machine.specs.Record.{pinsOf}
 use Rattle.machine.specs.Flags.{flags}
 use Rattle.machine.specs.Cycle.{counted, overflowsOf, cycleOf}
@@ -40,7 +41,9 @@ watched d =
     ∷ d .interrupts .polled
     ∷ d .levels)
 
--- the next cycle is busy: a timer overflows, a serial position is nonzero before or after it, or one of these changes
+-- the next cycle is busy, unless in power-down: a timer overflows, a serial position is nonzero before or after it, or one of these
+-- changes
 unfoldable pub busy : ℕ → Device → Bool
 busy pins d =
-    (overflows pins d || working d) || (working (cycleOf pins d) || not (same (watched d) (watched (cycleOf pins d))))
+    not (poweredDown (d .pcon))
+    && ((overflows pins d || working d) || (working (cycleOf pins d) || not (same (watched d) (watched (cycleOf pins d)))))

@@ -10,6 +10,7 @@ use Rattle.machine.specs.declared.Device.{Device}
 use Rattle.machine.specs.declared.Count.{Count}
 use Rattle.machine.specs.Bits.{bit}
 use Rattle.machine.specs.Registers.{RXD, INT0, INT1, IT0, IT1, IE0, IE1, SMOD, TR2, C/T2}
+use Rattle.machine.specs.Power.{poweredDown}
 use Rattle.machine.specs.Record.{serialMode, pinsOf, levelsOf}
 use Rattle.machine.specs.Counting.{pair13, pair16, hold}
 use Rattle.machine.specs.Timers.{timer0Mode, timer1Mode, counts0, counts1, countsHigh0}
@@ -21,7 +22,7 @@ use Rattle.strides.specs.Busy.{same}
 
 -- Here l is the pin byte as the kind takes it.
 
--- A device is settled if a cycle without overflows finds nothing to do
+-- A device is settled if it is out of power-down and a cycle without overflows finds nothing to do
 
 -- IEi of a level-triggered input is 1 - L: the two differ
 abbrev pub levelSettled : ℕ → ℕ → ℕ → ℕ → Bool
@@ -45,12 +46,13 @@ serialSettled rxd s = (eqb (s .send .position) 0 && eqb (s .receive .position) 0
 abbrev pub interruptsSettled : ℕ → Interrupts → Bool
 interruptsSettled now i = eqb (i .seen) now && eqb (i .polled) now
 
--- the rest of the device: the saved levels are the pins' too
+-- the rest of the device: it is out of power-down, and the saved levels are the pins' too
 unfoldable pub othersSettled : ℕ → Device → Bool
 othersSettled l d =
-    (same (d .levels) (levelsOf l) && timersSettled l (d .timers))
+    not (poweredDown (d .pcon))
+    && ((same (d .levels) (levelsOf l) && timersSettled l (d .timers))
     && (eqb (d .timer2 .due2) 0
-    && interruptsSettled (seenOf (d .timers .tcon) (d .serial .scon) (d .timer2 .t2con)) (d .interrupts))
+    && interruptsSettled (seenOf (d .timers .tcon) (d .serial .scon) (d .timer2 .t2con)) (d .interrupts)))
 
 -- the device
 unfoldable pub settledAt : ℕ → Device → Bool
@@ -92,8 +94,12 @@ abbrev pub room2 : Timer2 → ℕ
 room2 t = roomOf (moves2 t) (left2 t)
 
 -- the least of them; none in a device that is not settled
+unfoldable pub awakeRoom : ℕ → Device → ℕ
+awakeRoom l d = cond (settledAt l d) (min (roomTimers l (d .timers)) (room2 (d .timer2))) 0
+
+-- in power-down nothing happens in any jump
 unfoldable pub roomAt : ℕ → Device → ℕ
-roomAt l d = cond (settledAt l d) (min (roomTimers l (d .timers)) (room2 (d .timer2))) 0
+roomAt l d = cond (poweredDown (d .pcon)) longest (awakeRoom l d)
 
 -- the cycles of a round with so much room, of those that are left: one where the next is busy, otherwise the quiet run or
 -- what is left
@@ -183,10 +189,14 @@ withParts n t u s d =
     }
 
 -- running timers, the serial port in mode 2 and the cycle number move, and nothing else
-unfoldable pub strideAt : ℕ → ℕ → Device → Device
-strideAt m l d =
+unfoldable pub awakeStride : ℕ → ℕ → Device → Device
+awakeStride m l d =
     withParts ((d .cycle + m) % 2 ^ 64) (strideTimers m l (d .timers)) (stride2 m (d .timer2))
     (strideSerial m (bit SMOD (d .pcon)) (bit RXD l) (d .serial)) d
+
+-- in power-down nothing does
+unfoldable pub strideAt : ℕ → ℕ → Device → Device
+strideAt m l d = cond (poweredDown (d .pcon)) d (awakeStride m l d)
 
 -- The same of a pin byte as it is given
 

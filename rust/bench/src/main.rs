@@ -1,10 +1,10 @@
-//! The benchmark: single cycles, the idle station, a device at rest, a frame, and a thousand tags, next to the plain model and to
-//! other programs.
+//! The benchmark: single cycles, the idle station, a device at rest and in power-down, a frame, and a thousand tags, next to the plain
+//! model and to other programs.
 use bench::others::{emu8051, s51, Figure};
 use bench::plain::Plain;
 use bench::tight::Idle;
 use bench::timing::{race, seconds, Contender};
-use c51::{address, pin, raw, Device, MAX_CYCLES, PINS_HIGH};
+use c51::{address, pcon, pin, raw, Device, MAX_CYCLES, PINS_HIGH};
 use compare::record::to_model;
 use station::chip::{Chip, CYCLES_A_SECOND};
 use station::frame::{frame, Stretch, BIT};
@@ -39,6 +39,7 @@ fn main() {
     single_cycles(part);
     let per_cycle = idle_station(part);
     at_rest(part);
+    power_down(part);
     one_frame(part);
     let s51 = s51();
     let emu8051 = emu8051(&std::env::temp_dir());
@@ -61,7 +62,7 @@ fn lines(contenders: &[Contender], times: &[f64], pieces: u64, unit: (&str, f64)
     }
 }
 
-/// The idle station: 80C52, serial mode 1, Timer 1 in mode 2, TH1 FD, SMOD 0.
+/// The idle station: 80C52, serial mode 1, Timer 1 in mode 2, TH1 FD, SMOD 0, asleep.
 fn idle() -> Device {
     let mut device = Reader::<Device>::new().chip;
     Chip::jump(&mut device, PINS_HIGH, 100);
@@ -160,45 +161,93 @@ fn idle_station(part: u64) -> f64 {
     lines(&contenders, &times, cycles, ("ms", 1e9), 2);
     println!("The same, a round:");
     lines(&contenders, &times, rounds, ("ns", 1e9), 1);
-    let looks = CALLS / part;
-    let time = race(RUNS, &mut [Contender::new("look ahead (c51_look)", || look_ahead(device, cycles, looks))])[0];
-    println!("A look ahead over all of them, in which no flag rises: {:.1} ns", time / looks as f64 * 1e9);
-    times[0] / cycles as f64
+    let per_cycle = times[0] / cycles as f64;
+    let calls = CALLS / part;
+    let mut contenders = [
+        Contender::new("look ahead (c51_look)", || look_ahead(device, cycles, calls)),
+        Contender::new("wake look (c51_wake)", || wake_look(device, cycles, calls)),
+    ];
+    let times = race(RUNS, &mut contenders);
+    println!("Looks over all of them, in which Timer 1 alone reloads and nothing is found:");
+    lines(&contenders, &times, calls, ("ns", 1e9), 0);
+    per_cycle
 }
 
 /// Calls of a run where one takes well under a microsecond.
 const CALLS: u64 = 10_000;
 
+/// Jumps of n cycles, one after the other, each of the device as given.
+fn jump(device: Device, n: u64, calls: u64) {
+    for _ in 0..calls {
+        let mut device = black_box(device);
+        Chip::jump(&mut device, PINS_HIGH, n);
+        black_box(device);
+    }
+}
+
 /// Look aheads over n cycles, one after the other.
-fn look_ahead(device: Device, n: u64, looks: u64) {
-    for _ in 0..looks {
+fn look_ahead(device: Device, n: u64, calls: u64) {
+    for _ in 0..calls {
         black_box(raw::c51_look(black_box(device), PINS_HIGH, n));
+    }
+}
+
+/// Wake looks over n cycles, one after the other.
+fn wake_look(device: Device, n: u64, calls: u64) {
+    for _ in 0..calls {
+        black_box(raw::c51_wake(black_box(device), PINS_HIGH, n));
     }
 }
 
 fn at_rest(part: u64) {
     let device = Device::reset(52).expect("a kind");
-    let jumps = CALLS / part;
+    let calls = CALLS / part;
     let mut contenders = [
-        Contender::new("jump of 2^40 cycles", || {
-            for _ in 0..jumps {
-                let mut device = black_box(device);
-                Chip::jump(&mut device, PINS_HIGH, MAX_CYCLES);
-                black_box(device);
-            }
-        }),
-        Contender::new("look ahead over 2^40 cycles", || look_ahead(device, MAX_CYCLES, jumps)),
-        Contender::new("jump of 1 cycle", || {
-            for _ in 0..jumps {
-                let mut device = black_box(device);
-                Chip::jump(&mut device, PINS_HIGH, 1);
-                black_box(device);
-            }
-        }),
+        Contender::new("jump of 2^40 cycles", || jump(device, MAX_CYCLES, calls)),
+        Contender::new("look ahead over 2^40 cycles", || look_ahead(device, MAX_CYCLES, calls)),
+        Contender::new("wake look over 2^40 cycles", || wake_look(device, MAX_CYCLES, calls)),
+        Contender::new("jump of 1 cycle", || jump(device, 1, calls)),
     ];
     let times = race(RUNS, &mut contenders);
     println!("\nA device at rest:");
-    lines(&contenders, &times, jumps, ("ns", 1e9), 2);
+    lines(&contenders, &times, calls, ("ns", 1e9), 3);
+}
+
+/// Entries of a trace run, and the most cycles of one.
+const ENTRIES: usize = 16;
+const MOST_OF_AN_ENTRY: u32 = 0xFF_FFFF;
+
+/// Trace runs, one after the other, each of the device as given.
+fn trace_run(device: Device, entries: &[u32], calls: u64) {
+    for _ in 0..calls {
+        let mut device = black_box(device);
+        device.trace(entries).expect("entries that pass");
+        black_box(device);
+    }
+}
+
+/// Each long call in power-down against the same at rest.
+fn power_down(part: u64) {
+    let rest = Device::reset(52).expect("a kind");
+    let mut down = all_running();
+    down.write(address::PCON, pcon::PD).expect("a register");
+    let calls = CALLS / part;
+    let entries = [u32::from(PINS_HIGH) << 24 | MOST_OF_AN_ENTRY; ENTRIES];
+    let mut contenders = [
+        Contender::new("jump, power-down", || jump(down, MAX_CYCLES, calls)),
+        Contender::new("jump, at rest", || jump(rest, MAX_CYCLES, calls)),
+        Contender::new("look ahead, power-down", || look_ahead(down, MAX_CYCLES, calls)),
+        Contender::new("look ahead, at rest", || look_ahead(rest, MAX_CYCLES, calls)),
+        Contender::new("wake look, power-down", || wake_look(down, MAX_CYCLES, calls)),
+        Contender::new("wake look, at rest", || wake_look(rest, MAX_CYCLES, calls)),
+        Contender::new("trace run, power-down", || trace_run(down, &entries, calls)),
+        Contender::new("trace run, at rest", || trace_run(rest, &entries, calls)),
+    ];
+    let times = race(RUNS, &mut contenders);
+    println!("\nA device in power-down, with all timers set to run, over 2^40 cycles (the trace run over {ENTRIES} entries):");
+    for (pair, times) in contenders.chunks(2).zip(times.chunks(2)) {
+        lines(pair, times, calls, ("ns", 1e9), 1);
+    }
 }
 
 /// Frames one after the other, each read by interrupt.
@@ -218,7 +267,7 @@ fn one_frame(part: u64) {
         Contender::new("plain model", || read_frames::<Plain>(frames)),
     ];
     let times = race(RUNS, &mut contenders);
-    println!("\nA frame of 960 cycles, by look ahead and jump, read by interrupt:");
+    println!("\nA frame of 960 cycles, by wake look and jump, read by interrupt:");
     lines(&contenders, &times, frames, ("us", 1e6), 1);
 }
 

@@ -1,4 +1,4 @@
-//! The model by other hands as a station's chip. It steps cycle by cycle; what a look ahead has stepped, the jump after it takes over, so
+//! The model by other hands as a station's chip. It steps cycle by cycle; what a wake look has stepped, the jump after it takes over, so
 //! that every cycle is stepped once.
 use c51::Device;
 use c51model::model;
@@ -9,13 +9,18 @@ use std::cell::Cell;
 
 pub struct Plain {
     device: model::Device,
-    /// Where the last look ahead came to: pins, cycles, and the device there.
+    /// Where the last wake look came to: pins, cycles, and the device there.
     ahead: Cell<Option<(u8, u64, model::Device)>>,
 }
 
 /// A vector, whose high byte is 0.
 fn byte(vector: u16) -> u8 {
     u8::try_from(vector).expect("a vector of the chip")
+}
+
+/// Whether an interrupt is offered; where none that is enabled is polled, none is, and the offer's own check is spared.
+fn is_offered(device: &model::Device) -> bool {
+    device.polled & device.ie != 0 && device.offer().expect(PASSES).is_some()
 }
 
 impl Chip for Plain {
@@ -47,22 +52,15 @@ impl Chip for Plain {
         }
     }
 
-    fn look_ahead(&self, pins: u8, n: u64) -> Option<u64> {
+    fn wake_look(&self, pins: u8, n: u64) -> Option<u64> {
         let mut device = self.device;
-        for k in 1..=n {
-            let before = device.flags();
+        let mut k = 0;
+        while !is_offered(&device) && k < n {
             device.jump(pins, 1).expect(PASSES);
-            if device.flags() & !before != 0 {
-                self.ahead.set(Some((pins, k, device)));
-                return Some(k);
-            }
+            k += 1;
         }
-        self.ahead.set(Some((pins, n, device)));
-        None
-    }
-
-    fn offer(&self) -> Option<u8> {
-        self.device.offer().expect(PASSES).map(byte)
+        self.ahead.set(Some((pins, k, device)));
+        is_offered(&device).then_some(k)
     }
 
     fn take(&mut self) -> u8 {

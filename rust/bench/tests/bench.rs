@@ -1,7 +1,7 @@
 //! The benchmark measures what it says: the loop by hand and the plain chip do the library's work, and a missing program stops nothing.
 use bench::plain::Plain;
 use bench::tight::Idle;
-use c51::{Device, PINS_HIGH};
+use c51::{flag, pcon, Device, PINS_HIGH};
 use station::reader::Reader;
 use station::run::{run, Plan};
 use std::process::Command;
@@ -20,6 +20,16 @@ fn the_loop_by_hand_is_the_idle_station() {
     }
 }
 
+/// What the looks over the idle station are timed on: TF1 is up, Timer 1 alone reloads, and no interrupt comes.
+#[test]
+fn looks_over_the_idle_station_find_nothing() {
+    let mut device = Reader::<Device>::new().chip;
+    device.jump(PINS_HIGH, 100).unwrap();
+    assert_eq!((device.pcon & pcon::IDL, device.timers.tcon & flag::TF1), (pcon::IDL, flag::TF1));
+    assert_eq!(device.look_ahead(PINS_HIGH, 1_000_000), Ok(None));
+    assert_eq!(device.wake_look(PINS_HIGH, 1_000_000), Ok(None));
+}
+
 #[test]
 fn the_plain_chip_reads_the_same_tags() {
     let plan = Plan { stations: 2, tags: 4, gap: 5_000, seed: 8, noise: 1, chosen: Vec::new() };
@@ -34,8 +44,13 @@ fn missing_programs_are_named_and_left_out() {
     for part in [
         "A single cycle, idle station:",
         "The idle station,",
-        "A look ahead over all of them, in which no flag rises: ",
+        "Looks over all of them, in which Timer 1 alone reloads and nothing is found:\n  look ahead (c51_look) ",
+        "x look ahead (c51_look)\n  wake look (c51_wake) ",
         "A device at rest:",
+        "\n  wake look over 2^40 cycles ",
+        "A device in power-down, with all timers set to run, over 2^40 cycles (the trace run over 16 entries):\n  jump, power-down ",
+        "x look ahead, at rest\n  wake look, power-down ",
+        "x wake look, at rest\n  trace run, power-down ",
         "A frame of 960 cycles",
         "Run time for 1000 tags",
     ] {

@@ -25,7 +25,7 @@ pub use raw::{Device, Interrupts, Receiver, Sender, Serial, Timer2, Timers};
 
 /// All pins at 1.
 pub const PINS_HIGH: u8 = 0x7F;
-/// The longest jump and look ahead.
+/// The longest jump, look ahead and wake look.
 pub const MAX_CYCLES: u64 = 1 << 40;
 /// The entries of the longest trace.
 pub const MAX_TRACE: usize = 65_536;
@@ -61,6 +61,15 @@ pub mod address {
     pub const TH2: u8 = 0xCD;
 }
 
+/// Bits of PCON. In idle the peripherals go on as before, and a take clears IDL. Power-down wins over idle and only reset ends it:
+/// a cycle, jump or trace run passes and alters nothing, nothing is offered, a look finds none, and a write, take or return is
+/// refused.
+pub mod pcon {
+    pub const IDL: u8 = 0x01;
+    pub const PD: u8 = 0x02;
+    pub const SMOD: u8 = 0x80;
+}
+
 /// Masks of the flags: TF1, TF0, IE1, IE0 in TCON, TI, RI in SCON, TF2, EXF2 in T2CON.
 pub mod flag {
     pub const TF1: u8 = 0x80;
@@ -85,6 +94,7 @@ pub mod call {
     pub const OFFER: u64 = 7;
     pub const TAKE: u64 = 8;
     pub const RETURN: u64 = 9;
+    pub const WAKE: u64 = 10;
 }
 
 /// Why a call was refused; the number is the library's code. Code 9 is retired and is not used again: it stood for a serial counter
@@ -100,11 +110,12 @@ pub enum Refusal {
     NothingOffered = 6,
     NothingInService = 7,
     EmptyEntry = 8,
+    PoweredDown = 10,
 }
 
 impl Refusal {
     /// Every refusal, in the order of the codes.
-    pub const ALL: [Refusal; 8] = [
+    pub const ALL: [Refusal; 9] = [
         Refusal::BadRecord,
         Refusal::BadKind,
         Refusal::BadAddress,
@@ -113,6 +124,7 @@ impl Refusal {
         Refusal::NothingOffered,
         Refusal::NothingInService,
         Refusal::EmptyEntry,
+        Refusal::PoweredDown,
     ];
 
     /// The library's code.
@@ -137,6 +149,7 @@ impl std::fmt::Display for Refusal {
             Refusal::NothingOffered => "no interrupt is offered",
             Refusal::NothingInService => "no interrupt is in service",
             Refusal::EmptyEntry => "a trace entry has no cycles",
+            Refusal::PoweredDown => "write, take or return in power-down",
         })
     }
 }
@@ -202,6 +215,32 @@ impl Device {
         answer(a.code, (a.found == 1).then_some(a.at))
     }
 
+    /// The wake look: the first k from 0 to n such that an interrupt is offered after k cycles with this pin byte. It does not ask
+    /// for IDL. A device that sleeps until Timer 0 wakes it:
+    ///
+    /// ```
+    /// use c51::{address, pcon, Device, PINS_HIGH};
+    ///
+    /// let mut device = Device::reset(52)?;
+    /// device.write(address::TMOD, 0x01)?; // Timer 0 in mode 1
+    /// device.write(address::IE, 0x82)?;
+    /// device.write(address::TCON, 0x10)?; // run
+    /// device.write(address::PCON, pcon::IDL)?; // sleep
+    /// assert_eq!(device.wake_look(PINS_HIGH, 65_536)?, None);
+    /// let k = device.wake_look(PINS_HIGH, 100_000)?;
+    /// assert_eq!(k, Some(65_537)); // TF0 rises in cycle 65,536, and the next one polls it
+    /// device.jump(PINS_HIGH, 65_537)?;
+    /// assert_eq!(device.wake_look(PINS_HIGH, 0)?, Some(0)); // offered as the device stands
+    /// assert_eq!(device.take()?, 0x0B);
+    /// assert_eq!(device.read(address::PCON)?, 0); // awake
+    /// # Ok::<(), c51::Refusal>(())
+    /// ```
+    #[inline]
+    pub fn wake_look(&self, pins: u8, n: u64) -> Result<Option<u64>, Refusal> {
+        let a = raw::c51_wake(*self, pins, n);
+        answer(a.code, (a.found == 1).then_some(a.at))
+    }
+
     /// The vector of the interrupt that is offered.
     #[inline]
     pub fn offer(&self) -> Result<Option<u8>, Refusal> {
@@ -209,7 +248,7 @@ impl Device {
         answer(a.code, (a.offered == 1).then_some(a.vector))
     }
 
-    /// Takes the interrupt that is offered; gives its vector.
+    /// Takes the interrupt that is offered, and clears IDL; gives the vector.
     #[inline]
     pub fn take(&mut self) -> Result<u8, Refusal> {
         let a = raw::c51_take(self);

@@ -127,7 +127,7 @@ pub struct OfferAnswer {
     pub vector: u8,
 }
 
-/// A look ahead.
+/// A look ahead or a wake look.
 #[repr(C)]
 #[derive(Clone, Copy, PartialEq, Eq, Debug)]
 pub struct LookAnswer {
@@ -139,7 +139,7 @@ pub struct LookAnswer {
 /// The words of a call in a list, and of its answer.
 pub const CALL_WORDS: usize = 3;
 pub const ANSWER_WORDS: usize = 3;
-/// In place of how many numbers an answer gives: an offer or a look ahead that passed and found none.
+/// In place of how many numbers an answer gives: an offer, a look ahead or a wake look that passed and found none.
 pub const NONE: u64 = u64::MAX;
 
 /// A call in a list: its number (see [`call`](crate::call)), and two arguments.
@@ -158,6 +158,7 @@ unsafe extern "C" {
     pub safe fn c51_read(device: Device, address: u8) -> ValueAnswer;
     pub safe fn c51_offer(device: Device) -> OfferAnswer;
     pub safe fn c51_look(device: Device, pins: u8, n: u64) -> LookAnswer;
+    pub safe fn c51_wake(device: Device, pins: u8, n: u64) -> LookAnswer;
     pub safe fn c51_accepts(device: Device) -> u8;
     fn c51_trace(device: &mut Device, entries: *const u32, count: usize) -> u8;
     fn c51_replay(

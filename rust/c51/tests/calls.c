@@ -43,6 +43,11 @@ static void calls(void) {
     c51_look_answer look = c51_look(device, C51_PINS_HIGH, C51_MAX_CYCLES);
     check(look.code == C51_PASSED && look.found == 1 && look.at == 2, "look ahead");
     check(c51_look(device, C51_PINS_HIGH, C51_MAX_CYCLES + 1).code == C51_TOO_LONG, "look ahead refused");
+    c51_look_answer wake = c51_wake(device, C51_PINS_HIGH, C51_MAX_CYCLES);
+    check(wake.code == C51_PASSED && wake.found == 1 && wake.at == 3, "wake look");
+    wake = c51_wake(device, C51_PINS_HIGH, 2);
+    check(wake.code == C51_PASSED && wake.found == 0 && wake.at == 0, "wake look that finds none");
+    check(c51_wake(device, 0x80, 0).code == C51_BAD_PINS, "wake look refused");
 
     c51_line_answer line = c51_cycle(&device, C51_PINS_HIGH);
     check(line.code == C51_PASSED && line.line == 1 && device.cycle == 1, "cycle");
@@ -53,8 +58,12 @@ static void calls(void) {
 
     c51_offer_answer offer = c51_offer(device);
     check(offer.code == C51_PASSED && offer.offered == 1 && offer.vector == 0x0B, "offer");
+    wake = c51_wake(device, C51_PINS_HIGH, 0);
+    check(wake.code == C51_PASSED && wake.found == 1 && wake.at == 0, "wake look at 0");
+    check(c51_write(&device, C51_PCON, C51_PCON_SMOD | C51_PCON_IDL) == C51_PASSED, "idle");
     c51_vector_answer take = c51_take(&device);
     check(take.code == C51_PASSED && take.vector == 0x0B && device.interrupts.low == 1, "take");
+    check(device.pcon == C51_PCON_SMOD, "a take clears IDL");
     check(c51_return(&device) == C51_PASSED && device.interrupts.low == 0, "return");
     c51_device before = device;
     check(c51_return(&device) == C51_NOTHING_IN_SERVICE && same(&device, &before), "return refused");
@@ -63,6 +72,20 @@ static void calls(void) {
     check(c51_trace(&device, trace, 0) == C51_PASSED && same(&device, &before), "trace of no entries");
     check(c51_trace(&device, trace, 3) == C51_EMPTY_ENTRY && same(&device, &before), "trace refused");
     check(c51_trace(&device, trace, 2) == C51_PASSED && device.cycle == 104 && device.levels[0] == 0, "trace");
+
+    check(c51_write(&device, C51_PCON, C51_PCON_PD | C51_PCON_IDL) == C51_PASSED, "the write that sets PD");
+    before = device;
+    check(c51_cycle(&device, 0).code == C51_PASSED && c51_cycle(&device, 0).line == 1, "cycle in power-down");
+    check(c51_jump(&device, 0, C51_MAX_CYCLES) == C51_PASSED, "jump in power-down");
+    check(c51_trace(&device, trace, 2) == C51_PASSED && c51_trace(&device, trace, 3) == C51_EMPTY_ENTRY, "trace in power-down");
+    check(c51_offer(device).code == C51_PASSED && c51_offer(device).offered == 0, "offer in power-down");
+    wake = c51_wake(device, 0, C51_MAX_CYCLES);
+    check(wake.code == C51_PASSED && wake.found == 0, "wake look in power-down");
+    check(c51_write(&device, C51_PCON, 0) == C51_POWERED_DOWN, "write in power-down");
+    check(c51_write(&device, 0, 0) == C51_POWERED_DOWN, "write in power-down, before the address");
+    check(c51_take(&device).code == C51_POWERED_DOWN, "take in power-down");
+    check(c51_return(&device) == C51_POWERED_DOWN, "return in power-down");
+    check(same(&device, &before), "power-down alters nothing");
 }
 
 /* A call of a list, and its answer. */
@@ -86,6 +109,9 @@ static const called interrupt[] = {
     {{C51_CALL_LOOK, C51_PINS_HIGH, 1}, {C51_PASSED, C51_NONE, 0}},
     {{C51_CALL_LOOK, C51_PINS_HIGH, C51_MAX_CYCLES}, {C51_PASSED, 1, 2}},
     {{C51_CALL_LOOK, C51_PINS_HIGH, C51_MAX_CYCLES + 1}, {C51_TOO_LONG, 1, 0}},
+    {{C51_CALL_WAKE, C51_PINS_HIGH, 2}, {C51_PASSED, C51_NONE, 0}},
+    {{C51_CALL_WAKE, 0x100 + C51_PINS_HIGH, C51_MAX_CYCLES}, {C51_PASSED, 1, 3}},
+    {{C51_CALL_WAKE, C51_PINS_HIGH, C51_MAX_CYCLES + 1}, {C51_TOO_LONG, 1, 0}},
     {{C51_CALL_CYCLE, C51_PINS_HIGH, 0}, {C51_PASSED, 1, 1}},
     {{C51_CALL_CYCLE, 0x80, 0}, {C51_BAD_PINS, 1, 0}},
     {{C51_CALL_JUMP, C51_PINS_HIGH, C51_MAX_CYCLES + 1}, {C51_TOO_LONG, 0, 0}},
@@ -99,7 +125,14 @@ static const called interrupt[] = {
     {{C51_CALL_TAKE, 0, 0}, {C51_PASSED, 1, 0x0B}},
     {{C51_CALL_TAKE, 0, 0}, {C51_NOTHING_OFFERED, 1, 0}},
     {{C51_CALL_RETURN, 0, 0}, {C51_PASSED, 0, 0}},
-    {{C51_CALL_RETURN + 1, 0, 0}, {C51_NOTHING_IN_SERVICE, 0, 0}},
+    {{C51_CALL_WAKE + 1, 0, 0}, {C51_NOTHING_IN_SERVICE, 0, 0}},
+    {{C51_CALL_WRITE, C51_PCON, C51_PCON_PD}, {C51_PASSED, 0, 0}},
+    {{C51_CALL_WRITE, C51_PCON, 0}, {C51_POWERED_DOWN, 0, 0}},
+    {{C51_CALL_TAKE, 0, 0}, {C51_POWERED_DOWN, 1, 0}},
+    {{C51_CALL_RETURN, 0, 0}, {C51_POWERED_DOWN, 0, 0}},
+    {{C51_CALL_JUMP, C51_PINS_HIGH, C51_MAX_CYCLES}, {C51_PASSED, 0, 0}},
+    {{C51_CALL_CYCLE, C51_PINS_HIGH, 0}, {C51_PASSED, 1, 1}},
+    {{C51_CALL_WAKE, C51_PINS_HIGH, 0}, {C51_PASSED, C51_NONE, 0}},
 };
 enum { CALLS = sizeof interrupt / sizeof *interrupt };
 

@@ -1,7 +1,7 @@
 //! The layout of the record and of the answers, size and each offset, and the constants: in Rust and in a C program
 //! that includes `c51.h`.
 use c51::raw::*;
-use c51::{address, call, pin, Refusal, MAX_CYCLES, MAX_TRACE, PINS_HIGH};
+use c51::{address, call, pcon, pin, Refusal, MAX_CYCLES, MAX_TRACE, PINS_HIGH};
 use std::collections::BTreeSet;
 use std::mem::{offset_of, size_of};
 use std::path::{Path, PathBuf};
@@ -72,7 +72,8 @@ fn constants() -> Vec<Constant> {
     let mut constants = constants! {
         "C51_PIN_" pin { RXD, INT0, INT1, T0, T1, T2, T2EX }
         "C51_" address { PCON, TCON, TMOD, TL0, TL1, TH0, TH1, SCON, SBUF, IE, IP, T2CON, RCAP2L, RCAP2H, TL2, TH2 }
-        "C51_CALL_" call { RESET, READ, WRITE, CYCLE, JUMP, TRACE, LOOK, OFFER, TAKE, RETURN }
+        "C51_PCON_" pcon { IDL, PD, SMOD }
+        "C51_CALL_" call { RESET, READ, WRITE, CYCLE, JUMP, TRACE, LOOK, OFFER, TAKE, RETURN, WAKE }
     };
     let others = [
         ("C51_PASSED", 0),
@@ -84,6 +85,7 @@ fn constants() -> Vec<Constant> {
         ("C51_NOTHING_OFFERED", Refusal::NothingOffered as u64),
         ("C51_NOTHING_IN_SERVICE", Refusal::NothingInService as u64),
         ("C51_EMPTY_ENTRY", Refusal::EmptyEntry as u64),
+        ("C51_POWERED_DOWN", Refusal::PoweredDown as u64),
         ("C51_MAX_CYCLES", MAX_CYCLES),
         ("C51_MAX_TRACE", MAX_TRACE as u64),
         ("C51_PINS_HIGH", PINS_HIGH.into()),

@@ -1,5 +1,5 @@
 //! The wrapper: each refusal that a call can meet, what a refused call leaves, and the values of each call.
-use c51::{address, call, raw, AnswerRow, Device, Refusal, ANSWER_WORDS, CALL_WORDS, MAX_CYCLES, MAX_TRACE, NONE, PINS_HIGH};
+use c51::{address, call, pcon, raw, AnswerRow, Device, Refusal, ANSWER_WORDS, CALL_WORDS, MAX_CYCLES, MAX_TRACE, NONE, PINS_HIGH};
 
 /// Timer 0 about to overflow, its interrupt enabled.
 fn timer_0_at_fffe() -> Device {
@@ -13,14 +13,15 @@ fn timer_0_at_fffe() -> Device {
 
 #[test]
 fn codes_and_refusals() {
-    assert_eq!(Refusal::ALL.map(Refusal::code), [1, 2, 3, 4, 5, 6, 7, 8]);
+    assert_eq!(Refusal::ALL.map(Refusal::code), [1, 2, 3, 4, 5, 6, 7, 8, 10]);
     for refusal in Refusal::ALL {
         assert_eq!(Refusal::of_code(refusal.code()), Some(refusal));
         assert!(!refusal.to_string().is_empty());
     }
     assert_eq!(Refusal::of_code(0), None);
     assert_eq!(Refusal::of_code(9), None, "9 is retired");
-    assert_eq!(Refusal::of_code(10), None);
+    assert_eq!(Refusal::of_code(10), Some(Refusal::PoweredDown));
+    assert_eq!(Refusal::of_code(11), None);
 }
 
 #[test]
@@ -34,6 +35,8 @@ fn refusals() {
     assert_eq!(device.jump(0x80, MAX_CYCLES + 1), Err(Refusal::BadPins));
     assert_eq!(device.jump(PINS_HIGH, MAX_CYCLES + 1), Err(Refusal::TooLong));
     assert_eq!(device.look_ahead(PINS_HIGH, MAX_CYCLES + 1), Err(Refusal::TooLong));
+    assert_eq!(device.wake_look(PINS_HIGH, MAX_CYCLES + 1), Err(Refusal::TooLong));
+    assert_eq!(device.wake_look(0x80, MAX_CYCLES + 1), Err(Refusal::BadPins));
     assert_eq!(device.trace(&vec![0; MAX_TRACE + 1]), Err(Refusal::TooLong));
     assert_eq!(device.trace(&[0x7F00_0001, 0x7F00_0000]), Err(Refusal::EmptyEntry));
     assert_eq!(device.trace(&[0x8000_0000]), Err(Refusal::BadPins));
@@ -54,6 +57,8 @@ fn a_bad_record_is_refused_by_every_call() {
     assert_eq!(device.jump(PINS_HIGH, 1), Err(Refusal::BadRecord));
     assert_eq!(device.trace(&[]), Err(Refusal::BadRecord));
     assert_eq!(device.look_ahead(PINS_HIGH, 1), Err(Refusal::BadRecord));
+    assert_eq!(device.wake_look(PINS_HIGH, 1), Err(Refusal::BadRecord));
+    assert_eq!(device.wake_look(0x80, MAX_CYCLES + 1), Err(Refusal::BadRecord));
     assert_eq!(device.offer(), Err(Refusal::BadRecord));
     assert_eq!(device.take(), Err(Refusal::BadRecord));
     assert_eq!(device.return_from_interrupt(), Err(Refusal::BadRecord));
@@ -80,6 +85,114 @@ fn an_interrupt_from_overflow_to_return() {
     assert_eq!(device.cycle, 3);
 }
 
+/// 0 where an interrupt is offered as the device stands, 1 where its source is seen and not polled, 2 where its flag is set and not
+/// seen, and none where it is not offered within the cycles or is not enabled.
+#[test]
+fn wake_looks() {
+    let mut device = timer_0_at_fffe();
+    for (cycle, k) in [(0, 3), (1, 2), (2, 1), (3, 0)] {
+        assert_eq!(device.cycle, cycle);
+        for n in 0..k {
+            assert_eq!(device.wake_look(PINS_HIGH, n), Ok(None), "after {cycle} cycles, over {n}");
+        }
+        for n in [k, k + 1, MAX_CYCLES] {
+            assert_eq!(device.wake_look(PINS_HIGH, n), Ok(Some(k)), "after {cycle} cycles, over {n}");
+        }
+        device.cycle(PINS_HIGH).unwrap();
+    }
+
+    let mut device = Device::reset(51).unwrap();
+    device.write(address::TCON, 0x20).unwrap();
+    assert_eq!(device.look_ahead(PINS_HIGH, MAX_CYCLES), Ok(None), "TF0 does not rise: it is written");
+    assert_eq!(device.wake_look(PINS_HIGH, MAX_CYCLES), Ok(None), "not enabled");
+    device.write(address::IE, 0x82).unwrap();
+    assert_eq!(device.wake_look(PINS_HIGH, 1), Ok(None));
+    assert_eq!(device.wake_look(PINS_HIGH, 2), Ok(Some(2)));
+}
+
+/// In idle the device goes on as one that is awake, and a take clears IDL and no other bit of PCON.
+#[test]
+fn idle() {
+    let mut awake = timer_0_at_fffe();
+    awake.write(address::PCON, 0x8C).unwrap();
+    let mut device = awake;
+    device.write(address::PCON, 0x8C | pcon::IDL).unwrap();
+    assert_eq!(device.wake_look(PINS_HIGH, MAX_CYCLES), awake.wake_look(PINS_HIGH, MAX_CYCLES));
+    for _ in 0..3 {
+        assert_eq!(device.cycle(PINS_HIGH), awake.cycle(PINS_HIGH));
+        assert_eq!(device, Device { pcon: 0x8C | pcon::IDL, ..awake });
+        assert_eq!(device.offer(), awake.offer());
+    }
+    assert_eq!(device.take(), Ok(0x0B));
+    awake.take().unwrap();
+    assert_eq!(device, awake);
+    assert_eq!(device.read(address::PCON), Ok(0x8C));
+}
+
+/// A device in power-down, with an interrupt that would be offered and one in service, and with IDL, over which PD wins.
+fn powered_down() -> Device {
+    let mut device = timer_0_at_fffe();
+    device.jump(PINS_HIGH, 3).unwrap();
+    device.take().unwrap();
+    device.write(address::IP, 0x02).unwrap();
+    device.write(address::TCON, 0x30).unwrap();
+    device.jump(PINS_HIGH, 2).unwrap();
+    assert_eq!((device.offer(), device.interrupts.low), (Ok(Some(0x0B)), 1));
+    device.write(address::PCON, pcon::PD | pcon::IDL).unwrap();
+    device
+}
+
+/// In power-down cycles, jumps and traces pass and alter nothing, nothing is offered, and write, take and return are refused.
+#[test]
+fn power_down() {
+    let given = powered_down();
+    let mut device = given;
+    assert_eq!((device.pcon, device.accepts()), (0x03, true));
+    assert_eq!(device.cycle(PINS_HIGH), Ok(1));
+    assert_eq!(device.cycle(0), Ok(1));
+    device.jump(0, MAX_CYCLES).unwrap();
+    device.trace(&[0x0000_0001, 0x7FFF_FFFF]).unwrap();
+    assert_eq!(device.offer(), Ok(None));
+    for n in [0, 1, MAX_CYCLES] {
+        assert_eq!(device.look_ahead(0, n), Ok(None));
+        assert_eq!(device.wake_look(0, n), Ok(None), "also with an interrupt that would be offered");
+    }
+    assert_eq!(device.read(address::PCON), Ok(0x03));
+    assert_eq!(device.write(address::PCON, 0), Err(Refusal::PoweredDown), "no write ends it");
+    assert_eq!(device.write(address::SBUF, 0), Err(Refusal::PoweredDown));
+    assert_eq!(device.take(), Err(Refusal::PoweredDown));
+    assert_eq!(device.return_from_interrupt(), Err(Refusal::PoweredDown));
+    assert_eq!(device, given);
+    // the start bit of a frame stays on the line
+    device.serial.scon = 0x40;
+    device.serial.send.position = 2;
+    let given = device;
+    assert_eq!((device.cycle(PINS_HIGH), device), (Ok(0), given));
+}
+
+/// 10 goes after 1 and before 3, 6 and 7; the other refusals are judged as before.
+#[test]
+fn the_order_of_refusals_in_power_down() {
+    let mut device = powered_down();
+    assert_eq!(device.write(0x80, 1), Err(Refusal::PoweredDown), "before 3");
+    device.interrupts.polled = 0;
+    device.interrupts.low = 0;
+    assert_eq!(device.take(), Err(Refusal::PoweredDown), "before 6");
+    assert_eq!(device.return_from_interrupt(), Err(Refusal::PoweredDown), "before 7");
+    assert_eq!(device.read(0x80), Err(Refusal::BadAddress));
+    assert_eq!(device.cycle(0x80), Err(Refusal::BadPins));
+    assert_eq!(device.jump(0x80, MAX_CYCLES + 1), Err(Refusal::BadPins));
+    assert_eq!(device.jump(PINS_HIGH, MAX_CYCLES + 1), Err(Refusal::TooLong));
+    assert_eq!(device.look_ahead(PINS_HIGH, MAX_CYCLES + 1), Err(Refusal::TooLong));
+    assert_eq!(device.wake_look(PINS_HIGH, MAX_CYCLES + 1), Err(Refusal::TooLong));
+    assert_eq!(device.wake_look(0x80, 1), Err(Refusal::BadPins));
+    assert_eq!(device.trace(&[0x7F00_0001, 0x7F00_0000]), Err(Refusal::EmptyEntry));
+    device.levels[0] = 2;
+    assert_eq!(device.write(address::PCON, 0), Err(Refusal::BadRecord), "1 before 10");
+    assert_eq!(device.take(), Err(Refusal::BadRecord));
+    assert_eq!(device.return_from_interrupt(), Err(Refusal::BadRecord));
+}
+
 /// An answer in a list: its code, how many numbers it gives, and the first of them.
 fn answer(row: AnswerRow) -> [u64; 3] {
     [row[0], row[1], row[2]]
@@ -89,9 +202,13 @@ fn answer(row: AnswerRow) -> [u64; 3] {
 #[test]
 fn a_list_of_every_call() {
     let pins = PINS_HIGH.into();
-    let rows = [
+    const ROWS: usize = 18;
+    let rows: [([u64; CALL_WORDS], [u64; 3]); ROWS] = [
         ([call::LOOK, pins, 1], [0, NONE, 0]),
         ([call::LOOK, pins, MAX_CYCLES], [0, 1, 2]),
+        ([call::WAKE, pins, 2], [0, NONE, 0]),
+        ([call::WAKE, 0x100 | pins, MAX_CYCLES], [0, 1, 3]),
+        ([call::WAKE, 0x80, 0], [Refusal::BadPins as u64, 1, 0]),
         ([call::CYCLE, pins, 0], [0, 1, 1]),
         ([call::JUMP, pins, 1], [0, 0, 0]),
         ([call::READ, address::TCON.into(), 0], [0, 1, 0x30]),
@@ -99,13 +216,15 @@ fn a_list_of_every_call() {
         ([call::TRACE, 0, 1], [Refusal::BadPins as u64, 0, 0]),
         ([call::TRACE, 1, 2], [0, 0, 0]),
         ([call::OFFER, 0, 0], [0, 1, 0x0B]),
+        ([call::WAKE, pins, 0], [0, 1, 0]),
         ([call::TAKE, 0, 0], [0, 1, 0x0B]),
         ([call::WRITE, address::TMOD.into(), 0x101], [0, 0, 0]),
         ([call::RETURN, 0, 0], [0, 0, 0]),
         ([u64::MAX, 0, 0], [Refusal::NothingInService as u64, 0, 0]),
+        ([call::WAKE + 1, 0, 0], [Refusal::NothingInService as u64, 0, 0]),
     ];
     let mut device = timer_0_at_fffe();
-    let mut answers = [[0; ANSWER_WORDS]; 13];
+    let mut answers = [[0; ANSWER_WORDS]; ROWS];
     device.replay(&rows.map(|(call, _)| call), &[0x8000_0001, 0x7F00_0001], &mut answers);
     assert_eq!(answers.map(answer), rows.map(|(_, answer)| answer));
 
@@ -114,6 +233,23 @@ fn a_list_of_every_call() {
     single.take().unwrap();
     single.return_from_interrupt().unwrap();
     assert_eq!(device, single);
+
+    let asleep = [
+        [call::WRITE, address::PCON.into(), (pcon::PD | pcon::IDL).into()],
+        [call::WRITE, address::PCON.into(), 0],
+        [call::TAKE, 0, 0],
+        [call::RETURN, 0, 0],
+        [call::WAKE, pins, MAX_CYCLES],
+        [call::JUMP, pins, MAX_CYCLES],
+        [call::CYCLE, pins, 0],
+    ];
+    let refused = Refusal::PoweredDown as u64;
+    device.replay(&asleep, &[], &mut answers[..7]);
+    assert_eq!(
+        answers[..7].iter().map(|row| answer(*row)).collect::<Vec<[u64; 3]>>(),
+        [[0, 0, 0], [refused, 0, 0], [refused, 1, 0], [refused, 0, 0], [0, NONE, 0], [0, 0, 0], [0, 1, 1]]
+    );
+    assert_eq!(device, Device { pcon: 0x03, ..single });
 
     device.replay(&[[call::RESET, 51, 0]], &[], &mut answers[..1]);
     assert_eq!((Ok(device), answer(answers[0])), (Device::reset(51), [0, 0, 0]));

@@ -1,7 +1,7 @@
 //! Fresh random records of any content and random lists of calls, beside those of the model's generator.
 use crate::pair::{Pair, Tally};
 use crate::{entry, STAGE};
-use c51::{address, Device, Timer2, MAX_CYCLES, PINS_HIGH};
+use c51::{address, pcon, Device, Timer2, MAX_CYCLES, PINS_HIGH};
 use random::Rng;
 use replay::calls::{Call, Request};
 use replay::record::FIELDS;
@@ -56,11 +56,20 @@ fn any_record(rng: &mut Rng) -> Device {
     device
 }
 
+/// Of so many random values for PCON one has PD: in power-down little else can be told apart.
+const POWER_DOWN: u64 = 8;
+
+/// A random value for PCON.
+fn some_pcon(rng: &mut Rng) -> u8 {
+    let pd = if rng.one_in(POWER_DOWN) { pcon::PD } else { 0 };
+    rng.byte() & !pcon::PD | pd
+}
+
 /// A record of any content within the ranges and masks: reachable or not, it is accepted.
 fn good_record(rng: &mut Rng) -> Device {
     let mut d = any_record(rng);
     d.kind = rng.pick(&[51, 52, 52]);
-    d.pcon &= 0x8F;
+    d.pcon = some_pcon(rng) & 0x8F;
     d.interrupts.ie &= 0xBF;
     for field in [&mut d.interrupts.ip, &mut d.interrupts.seen, &mut d.interrupts.polled] {
         *field &= 0x3F;
@@ -192,15 +201,30 @@ enum Name {
     Take,
     Return,
     Reset,
+    Wake,
 }
 
-const NAMES: [Name; 10] =
-    [Name::Write, Name::Read, Name::Cycle, Name::Jump, Name::Trace, Name::Look, Name::Offer, Name::Take, Name::Return, Name::Reset];
+const NAMES: [Name; 11] = [
+    Name::Write,
+    Name::Read,
+    Name::Cycle,
+    Name::Jump,
+    Name::Trace,
+    Name::Look,
+    Name::Offer,
+    Name::Take,
+    Name::Return,
+    Name::Reset,
+    Name::Wake,
+];
 
 /// The call of that name with random arguments.
 fn call(rng: &mut Rng, name: Name, most: u64) -> Call {
     match name {
-        Name::Write => Call::Write(some_address(rng), rng.byte()),
+        Name::Write => match some_address(rng) {
+            address::PCON => Call::Write(address::PCON, some_pcon(rng)),
+            address => Call::Write(address, rng.byte()),
+        },
         Name::Read => Call::Read(some_address(rng)),
         Name::Cycle => Call::Cycle(pins(rng)),
         Name::Jump => Call::Jump(pins(rng), cycles(rng, most)),
@@ -210,6 +234,7 @@ fn call(rng: &mut Rng, name: Name, most: u64) -> Call {
         Name::Take => Call::Take,
         Name::Return => Call::Return,
         Name::Reset => Call::Reset(rng.pick(&[51, 52, 52, 53, 0, 255])),
+        Name::Wake => Call::Wake(pins(rng), cycles(rng, most)),
     }
 }
 
@@ -224,31 +249,62 @@ pub fn run_record(rng: &mut Rng) -> Result<Tally, String> {
 }
 
 /// The name of a list's next call: now and then a reset; of the others a third are writes, and a read, a cycle, a jump or a trace comes
-/// twice as often as a look ahead, an offer, a take or a return.
+/// twice as often as a look ahead, a wake look, an offer, a take or a return.
 fn next_name(rng: &mut Rng) -> Name {
     if rng.one_in(200) {
         return Name::Reset;
     }
-    match rng.below(18) {
+    match rng.below(19) {
         0..=5 => Name::Write,
         6..=7 => Name::Read,
         8..=9 => Name::Cycle,
         10..=11 => Name::Jump,
         12..=13 => Name::Trace,
-        _ => rng.pick(&[Name::Look, Name::Offer, Name::Take, Name::Return]),
+        _ => rng.pick(&[Name::Look, Name::Wake, Name::Offer, Name::Take, Name::Return]),
+    }
+}
+
+/// Calls of a list: one of so many puts the device to sleep, and in power-down one of so many ends it.
+const SLEEP: u64 = 20;
+const END_OF_POWER_DOWN: u64 = 10;
+
+/// A list's next call.
+fn next_call(rng: &mut Rng, powered_down: bool, most: u64) -> Call {
+    if powered_down && rng.one_in(END_OF_POWER_DOWN) {
+        Call::Reset(rng.pick(&[51, 52]))
+    } else if rng.one_in(SLEEP) {
+        Call::Write(address::PCON, some_pcon(rng) | pcon::IDL)
+    } else {
+        let name = next_name(rng);
+        call(rng, name, most)
+    }
+}
+
+/// Whether PD is set after a call, with what it was before.
+fn powers_down(before: bool, call: &Call) -> bool {
+    match *call {
+        Call::Reset(_) => false,
+        Call::Write(address::PCON, value) => before || value & pcon::PD != 0,
+        _ => before,
     }
 }
 
 /// Runs a random list from reset or from a raw record.
 pub fn run_list(rng: &mut Rng, length: u64) -> Result<Tally, String> {
+    let mut powered_down = false;
     let first = match rng.below(3) {
-        0 => Request::Put(Box::new(good_record(rng))),
+        0 => {
+            let device = good_record(rng);
+            powered_down = device.pcon & pcon::PD != 0;
+            Request::Put(Box::new(device))
+        }
         _ => Request::Call(Call::Reset(rng.pick(&[51, 52]))),
     };
     let most = rng.pick(&[3, 30, 300, 3000]);
     let calls = (1..length).map(|_| {
-        let name = next_name(rng);
-        Request::Call(call(rng, name, most))
+        let call = next_call(rng, powered_down, most);
+        powered_down = powers_down(powered_down, &call);
+        Request::Call(call)
     });
     Pair::default().run(std::iter::once(first).chain(calls))
 }

@@ -3,7 +3,7 @@ use crate::ran::{row, Ran};
 use crate::reach::{shortened, REACH};
 use crate::record::to_model;
 use c51::raw::{self, LineAnswer, LookAnswer, ValueAnswer};
-use c51::{AnswerRow, Device};
+use c51::{pcon, AnswerRow, Device};
 use c51model::model::{self, Refusal};
 use c51model::script;
 use replay::calls::{Call, Request};
@@ -41,7 +41,12 @@ fn same<T: PartialEq + Debug>(library: T, model: T) -> Result<(), String> {
     }
 }
 
-/// The answer of an offer or a look ahead in a list: none only where it passed.
+/// The answer of a look ahead or a wake look.
+fn look_answer(code: u8, found: Option<u64>) -> LookAnswer {
+    LookAnswer { code, found: found.is_some().into(), at: found.unwrap_or(0) }
+}
+
+/// The answer of an offer, a look ahead or a wake look in a list: none only where it passed.
 fn row_of_found(code: u8, found: Option<u64>) -> AnswerRow {
     match (code, found) {
         (0, None) => row(code, None),
@@ -73,7 +78,7 @@ impl Pair {
                 let put = Request::Put(Box::new(before));
                 format!("the library and the model differ in the call of this script:\n{put}\n{request}\nD\n{what}")
             })?;
-            tally += Tally { calls: 1, cycles: cycles(&request, &before, &self.library) };
+            tally += Tally::of(&request, &before, &self.library);
             match (request, answer) {
                 (Request::Call(call), Some(answer)) => ran.push(call, answer, self.library)?,
                 (Request::Put(device), _) => {
@@ -145,8 +150,12 @@ impl Pair {
             }
             &Call::Look(pins, n) => {
                 let (code, at) = code_and(model.look_ahead(pins, n));
-                let expected = LookAnswer { code, found: at.is_some().into(), at: at.unwrap_or(0) };
-                same(raw::c51_look(*library, pins, n), expected)?;
+                same(raw::c51_look(*library, pins, n), look_answer(code, at))?;
+                row_of_found(code, at)
+            }
+            &Call::Wake(pins, n) => {
+                let (code, at) = code_and(model.wake_look(pins, n));
+                same(raw::c51_wake(*library, pins, n), look_answer(code, at))?;
                 row_of_found(code, at)
             }
             Call::Offer => {
@@ -186,11 +195,26 @@ fn cycles(request: &Request, before: &Device, after: &Device) -> u64 {
 pub struct Tally {
     pub calls: u64,
     pub cycles: u64,
+    /// The calls on a device in power-down.
+    pub in_power_down: u64,
+    /// The takes that cleared IDL.
+    pub woken: u64,
+}
+
+impl Tally {
+    /// What one request counts, with the records before and after it.
+    fn of(request: &Request, before: &Device, after: &Device) -> Tally {
+        let in_power_down = before.pcon & pcon::PD != 0 && before.accepts();
+        let woken = *request == Request::Call(Call::Take) && before.pcon & !after.pcon & pcon::IDL != 0;
+        Tally { calls: 1, cycles: cycles(request, before, after), in_power_down: in_power_down.into(), woken: woken.into() }
+    }
 }
 
 impl std::ops::AddAssign for Tally {
     fn add_assign(&mut self, other: Tally) {
         self.calls += other.calls;
         self.cycles += other.cycles;
+        self.in_power_down += other.in_power_down;
+        self.woken += other.woken;
     }
 }

@@ -1,16 +1,17 @@
 //! The reach of the comparison. A chip rests under a pin byte where no timer counts, no frame is under way and the cycle number alone
-//! moves; both cross that at once. Before it the model steps every cycle, and the library makes a round of every cycle with an overflow
-//! or of a frame, also of one that waits on a stopped clock. A call of very many such cycles is run over fewer, on both.
+//! moves, and in power-down, where nothing moves; both cross that at once. Before it the model steps every cycle, and the library makes
+//! a round of every cycle with an overflow or of a frame, also of one that waits on a stopped clock. A call of very many such cycles is
+//! run over fewer, on both.
 use crate::{entry, STAGE};
 use c51::{MAX_CYCLES, MAX_TRACE};
-use c51model::model::{entry_cycles, entry_pins, set_stage, Device};
+use c51model::model::{entry_cycles, entry_pins, set_stage, Device, Refusal};
 use c51model::script::{run_line, World};
 use replay::calls::{Call, Request};
 use replay::lines;
 
-/// The most cycles of a jump, a look ahead or a trace entry before the chip rests or the look ahead ends.
+/// The most cycles of a jump, a look or a trace entry before the chip rests or the look ends.
 pub const REACH: u64 = 1 << 19;
-/// The most cycles of a jump, a look ahead or a trace entry that is shortened.
+/// The most cycles of a jump, a look or a trace entry that is shortened.
 const FEW: u64 = 5_000;
 /// Cycles until the pins are those of the cycle before, and the counter pins that fell are counted.
 const SETTLED: u64 = 2;
@@ -26,13 +27,11 @@ fn timer_counts(device: &Device, pins: u8) -> bool {
     d.jump(pins, 1).is_ok() && [d.tl0, d.th0, d.tl1, d.th1, d.tl2, d.th2] != [0; 6]
 }
 
-/// Whether a cycle moves the cycle number alone, with no frame under way: so does every cycle after it.
+/// Whether a cycle moves nothing in power-down, or the cycle number alone with no frame under way: so does every cycle after it.
 fn is_still(device: &Device, pins: u8) -> bool {
     let mut after = *device;
-    after.jump(pins, 1).is_ok()
-        && after.only_cycle_number_moved(device)
-        && device.send_position == 0
-        && device.receive_position == 0
+    let no_frame = device.send_position == 0 && device.receive_position == 0;
+    after.jump(pins, 1).is_ok() && after.the_same_for_ever(device) && (no_frame || device.in_power_down())
 }
 
 /// The cycles of a jump or a trace entry: fewer where the chip does not rest in time. A timer that still counts once the pins are
@@ -50,9 +49,12 @@ fn jump_in_reach(device: &Device, pins: u8, n: u64) -> u64 {
     }
 }
 
-/// The cycles of a look ahead, which also ends where a flag rises.
-fn look_in_reach(device: &Device, pins: u8, n: u64) -> u64 {
-    if are_many(n) && device.look_ahead(pins, REACH) == Ok(None) {
+/// A look ahead or a wake look of the model.
+type Look = fn(&Device, u8, u64) -> Result<Option<u64>, Refusal>;
+
+/// The cycles of a look, which also ends where it finds what it looks for: a flag that rises, or an interrupt that is offered.
+fn look_in_reach(look: Look, device: &Device, pins: u8, n: u64) -> u64 {
+    if are_many(n) && look(device, pins, REACH) == Ok(None) {
         jump_in_reach(device, pins, n)
     } else {
         n
@@ -79,7 +81,8 @@ pub fn shortened(device: &Device, request: &Request) -> Option<Request> {
     let Request::Call(call) = request else { return None };
     let within = match call {
         &Call::Jump(pins, n) => Call::Jump(pins, jump_in_reach(device, pins, n)),
-        &Call::Look(pins, n) => Call::Look(pins, look_in_reach(device, pins, n)),
+        &Call::Look(pins, n) => Call::Look(pins, look_in_reach(Device::look_ahead, device, pins, n)),
+        &Call::Wake(pins, n) => Call::Wake(pins, look_in_reach(Device::wake_look, device, pins, n)),
         Call::Trace(entries) if entries.iter().any(|&e| are_many(entry_cycles(e).into())) => {
             Call::Trace(trace_in_reach(device, entries))
         }

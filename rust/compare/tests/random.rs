@@ -1,5 +1,5 @@
 //! A fixed number of lists and raw records of fixed seeds, and that the comparison finds what it must.
-use c51::{call, Device, ANSWER_WORDS, MAX_CYCLES, PINS_HIGH};
+use c51::{call, flag, pcon, Device, ANSWER_WORDS, MAX_CYCLES, PINS_HIGH};
 use c51model::script;
 use compare::lists::{raw_record, run_list, run_record, script, styles};
 use compare::pair::{Pair, Tally};
@@ -33,19 +33,26 @@ fn scripts_of_the_model() {
 
 #[test]
 fn fresh_lists() {
+    let mut total = Tally::default();
     for seed in 0..LISTS {
-        run_list(&mut Rng::part(1, seed), LIST_LENGTH).unwrap_or_else(|what| panic!("list {seed}: {what}"));
+        total += run_list(&mut Rng::part(1, seed), LIST_LENGTH).unwrap_or_else(|what| panic!("list {seed}: {what}"));
     }
+    assert_eq!(total.calls, LISTS * LIST_LENGTH);
+    assert!((total.calls / 50..total.calls / 5).contains(&total.in_power_down), "{total:?}");
+    assert!(total.woken > LISTS / 20, "{total:?}");
 }
 
 #[test]
 fn raw_records() {
     let mut accepted = 0;
+    let mut total = Tally::default();
     for seed in 0..RECORDS {
         accepted += u64::from(raw_record(&mut Rng::part(2, seed)).accepts());
-        run_record(&mut Rng::part(2, seed)).unwrap_or_else(|what| panic!("record {seed}: {what}"));
+        total += run_record(&mut Rng::part(2, seed)).unwrap_or_else(|what| panic!("record {seed}: {what}"));
     }
     assert!(accepted > RECORDS / 3 && accepted < RECORDS * 2 / 3, "{accepted} of {RECORDS} accepted");
+    assert!((total.calls / 40..total.calls / 5).contains(&total.in_power_down), "{total:?}");
+    assert!(total.woken > RECORDS / 100, "{total:?}");
 }
 
 /// Cycles with one pin byte.
@@ -141,6 +148,53 @@ fn any_cut_ends_alike() {
     assert!(lists > 1_000, "{lists} lists");
 }
 
+/// A wake look finds the first k after which single cycles have an interrupt offered, in the library and in the model; a jump
+/// of k ends as those cycles do, and the take that follows clears IDL.
+#[test]
+fn wake_looks() {
+    let mut found = [0; 5];
+    for seed in 0..20_000 {
+        let rng = &mut Rng::part(8, seed);
+        let mut device = raw_record(rng);
+        if !device.accepts() || device.pcon & pcon::PD != 0 {
+            continue;
+        }
+        device.pcon |= pcon::IDL;
+        device.interrupts.ie |= rng.pick(&[0, 0x80, 0x80, 0x80]); // EA
+        device.interrupts.high = 0;
+        device.interrupts.polled &= rng.pick(&[0, 0, 0x3F]);
+        device.interrupts.seen &= rng.pick(&[0, 0x3F]);
+        if rng.one_in(2) {
+            // a flag has to rise first
+            device.interrupts.polled = 0;
+            device.interrupts.seen = 0;
+            device.timers.tcon &= !(flag::TF1 | flag::TF0 | flag::IE1 | flag::IE0);
+            device.serial.scon &= !(flag::TI | flag::RI);
+            device.timer2.t2con &= !(flag::TF2 | flag::EXF2);
+        }
+        let (pins, n) = (rng.byte() & PINS_HIGH, rng.pick(&[0, 1, 2, 40, 400]));
+
+        let mut stepped = device;
+        let mut k = 0;
+        while stepped.offer() == Ok(None) && k < n {
+            stepped.cycle(pins).unwrap();
+            k += 1;
+        }
+        let expected = stepped.offer().unwrap().map(|_| k);
+        assert_eq!(device.wake_look(pins, n), Ok(expected), "record {seed}");
+        assert_eq!(to_model(&device).wake_look(pins, n), Ok(expected), "record {seed}");
+        if expected.is_some() {
+            let mut jumped = device;
+            jumped.jump(pins, k).unwrap();
+            assert_eq!(jumped, stepped, "record {seed}");
+            jumped.take().unwrap();
+            assert_eq!(jumped.pcon, device.pcon & !pcon::IDL, "record {seed}");
+        }
+        found[expected.map_or(4, |k| k.min(3)) as usize] += 1;
+    }
+    assert!(found.iter().all(|&count| count > 200), "after 0, 1, 2, more cycles, and none: {found:?}");
+}
+
 /// The call of a row of any words: a byte is the low 8 bits of its word, a number that names no call is a return, and a
 /// trace whose part is not in order or not in range is empty.
 fn call_of([number, a, b]: [u64; 3], lent: &[u32]) -> Call {
@@ -157,6 +211,7 @@ fn call_of([number, a, b]: [u64; 3], lent: &[u32]) -> Call {
         call::LOOK => Call::Look(a as u8, b),
         call::OFFER => Call::Offer,
         call::TAKE => Call::Take,
+        call::WAKE => Call::Wake(a as u8, b),
         _ => Call::Return,
     }
 }

@@ -26,11 +26,11 @@ fn is_shortened(before: &str, calls: &[(&str, &str)]) {
     }
 }
 
-const LONGEST: [&str; 3] = ["J 127 1099511627776", "L 127 1099511627776", "T 2 2147483647 2147483646"];
-const SHORTER: [&str; 3] = ["J 127 2777", "L 127 2777", "T 2 2130708648 2130708647"];
+const LONGEST: [&str; 4] = ["J 127 1099511627776", "L 127 1099511627776", "Z 127 1099511627776", "T 2 2147483647 2147483646"];
+const SHORTER: [&str; 4] = ["J 127 2777", "L 127 2777", "Z 127 2777", "T 2 2130708648 2130708647"];
 
 fn longest_are_shortened(before: &str) {
-    is_shortened(before, &[0, 1, 2].map(|i| (LONGEST[i], SHORTER[i])));
+    is_shortened(before, &[0, 1, 2, 3].map(|i| (LONGEST[i], SHORTER[i])));
 }
 
 #[test]
@@ -40,13 +40,35 @@ fn a_chip_at_rest_is_in_reach() {
     stays("R 51\nW 153 85\n", &LONGEST);
     // a counter whose pin has just fallen
     stays("R 51\nW 137 5\nW 136 16\nC 119\n", &LONGEST);
+    // in idle
+    stays("R 51\nW 135 1\n", &LONGEST);
+}
+
+/// In power-down nothing moves: not a timer that would count, nor a frame that waits on a stopped clock or is under way.
+#[test]
+fn power_down_is_in_reach() {
+    for before in ["R 52\n", "R 51\nW 137 32\nW 136 192\n", "R 51\nW 152 64\nW 153 85\n", "R 52\nW 152 128\nW 153 85\nJ 127 9\n"] {
+        stays(&format!("{before}W 135 2\n"), &LONGEST);
+        stays(&format!("{before}W 135 3\n"), &LONGEST);
+    }
+    // no write ends it, and a reset does
+    stays("R 51\nW 137 32\nW 136 192\nW 135 2\nW 135 0\n", &LONGEST);
+    longest_are_shortened("R 51\nW 135 2\nR 51\nW 137 32\nW 136 192\n");
+}
+
+/// In idle timers and frames go on.
+#[test]
+fn idle_is_as_awake() {
+    longest_are_shortened("R 51\nW 137 32\nW 136 192\nW 135 1\n");
+    longest_are_shortened("R 51\nW 152 64\nW 153 85\nW 135 1\n");
 }
 
 #[test]
 fn a_frame_on_a_stopped_clock_is_out_of_reach() {
     longest_are_shortened("R 51\nW 152 64\nW 153 85\n");
-    let in_reach = [format!("J 127 {REACH}"), format!("L 127 {REACH}"), trace(&[(PINS_HIGH, REACH)])];
+    let in_reach = ["J", "L", "Z"].map(|name| format!("{name} 127 {REACH}"));
     stays("R 51\nW 152 64\nW 153 85\n", &in_reach.each_ref().map(String::as_str));
+    stays("R 51\nW 152 64\nW 153 85\n", &[&trace(&[(PINS_HIGH, REACH)])]);
     // INT1 stops Timer 1 by its gate, with the receiver resting and with a frame begun
     let gated = "R 51\nW 137 160\nW 136 64\nW 141 255\nW 139 255\nW 152 80\n";
     let stopped = |rxd: u8, n: u64| trace(&[(PINS_HIGH, 100), (PINS_HIGH & !rxd, 20), (PINS_HIGH & !rxd & !pin::INT1, n)]);
@@ -69,10 +91,22 @@ fn a_look_ahead_that_finds_a_rise_is_in_reach() {
     is_shortened("R 51\nW 137 1\nW 136 16\n", &[("J 127 1099511627776", "J 127 2777")]);
 }
 
+/// The interrupt of Timer 0: where it is not enabled, the flag rises and nothing is offered.
+#[test]
+fn a_wake_look_that_finds_an_offer_is_in_reach() {
+    stays("R 51\nW 137 1\nW 136 16\nW 168 130\n", &["Z 127 1099511627776", "L 127 1099511627776"]);
+    is_shortened("R 51\nW 137 1\nW 136 16\nW 168 130\n", &[("J 127 1099511627776", "J 127 2777")]);
+    is_shortened("R 51\nW 137 1\nW 136 16\n", &[("Z 127 1099511627776", "Z 127 2777")]);
+    // TF0 was set before: it does not rise again, and is offered
+    stays("R 51\nW 137 1\nW 136 48\nW 168 130\n", &["Z 127 1099511627776"]);
+    is_shortened("R 51\nW 137 1\nW 136 48\nW 168 130\n", &[("L 127 1099511627776", "L 127 2777")]);
+}
+
 #[test]
 fn refused_calls_stay() {
     let waiting = "R 51\nW 152 64\nW 153 85\n";
     stays(waiting, &["J 127 1099511627777", "L 127 18446744073709551615", "J 255 1099511627776", "L 128 1099511627776"]);
+    stays(waiting, &["Z 127 1099511627777", "Z 127 18446744073709551615", "Z 255 1099511627776"]);
     stays(waiting, &["T 2 2147483647 2130706432", "T 2 2147483647 2147483649", "T 0"]);
     let too_long = format!("T 65537{}", " 2147483647".repeat(65_537));
     stays(waiting, &[&too_long]);

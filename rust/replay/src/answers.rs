@@ -52,12 +52,14 @@ mod tests {
         for call in [call::RESET, call::WRITE, call::JUMP, call::TRACE, call::RETURN] {
             assert_eq!(text(call, [0, 0, 0]), "0 0\n");
         }
-        for call in [call::READ, call::CYCLE, call::LOOK, call::OFFER, call::TAKE] {
+        for call in [call::READ, call::CYCLE, call::LOOK, call::OFFER, call::TAKE, call::WAKE] {
             assert_eq!(text(call, [0, 1, 43]), "0 43\n");
         }
         assert_eq!(text(call::LOOK, [0, 1, u64::MAX]), "0 18446744073709551615\n");
-        assert_eq!(text(call::LOOK, [0, NONE, 0]), "0 none\n");
-        assert_eq!(text(call::OFFER, [0, NONE, 0]), "0 none\n");
+        assert_eq!(text(call::WAKE, [0, 1, 0]), "0 0\n");
+        for call in [call::LOOK, call::OFFER, call::WAKE] {
+            assert_eq!(text(call, [0, NONE, 0]), "0 none\n");
+        }
     }
 
     #[test]
@@ -65,7 +67,7 @@ mod tests {
         for call in [call::RESET, call::WRITE, call::JUMP, call::TRACE, call::RETURN] {
             assert_eq!(text(call, [8, 0, 0]), "8 0\n");
         }
-        for call in [call::READ, call::CYCLE, call::LOOK, call::OFFER, call::TAKE] {
+        for call in [call::READ, call::CYCLE, call::LOOK, call::OFFER, call::TAKE, call::WAKE] {
             assert_eq!(text(call, [255, 1, 0]), "255 0\n");
         }
     }

@@ -17,6 +17,7 @@ pub enum Call {
     Offer,
     Take,
     Return,
+    Wake(u8, u64),
 }
 
 /// What a line asks for.
@@ -60,6 +61,7 @@ impl Request {
             (b"O", []) => Call::Offer,
             (b"K", []) => Call::Take,
             (b"I", []) => Call::Return,
+            (b"Z", &[pins, n]) => Call::Wake(byte(pins)?, n),
             (b"S", numbers) => return Some(Request::Put(Box::new(record::of_numbers(numbers)?))),
             (b"D", []) => return Some(Request::Dump),
             _ => return None,
@@ -83,6 +85,7 @@ impl fmt::Display for Call {
             Call::Offer => f.write_str("O"),
             Call::Take => f.write_str("K"),
             Call::Return => f.write_str("I"),
+            Call::Wake(pins, n) => write!(f, "Z {pins} {n}"),
         }
     }
 }
@@ -115,6 +118,7 @@ impl Call {
             Call::Offer => [call::OFFER, 0, 0],
             Call::Take => [call::TAKE, 0, 0],
             Call::Return => [call::RETURN, 0, 0],
+            Call::Wake(pins, n) => [call::WAKE, pins.into(), n],
         }
     }
 }

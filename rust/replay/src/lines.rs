@@ -149,6 +149,8 @@ mod tests {
             (format!("J 255 {most}"), Call::Jump(255, most)),
             ("J 0 0".to_string(), Call::Jump(0, 0)),
             (format!("L 255 {most}"), Call::Look(255, most)),
+            (format!("Z 255 {most}"), Call::Wake(255, most)),
+            ("Z 0 0".to_string(), Call::Wake(0, 0)),
             ("T 0".to_string(), Call::Trace(vec![])),
             ("T 3 0 4294967295 7".to_string(), Call::Trace(vec![0, u32::MAX, 7])),
             ("O".to_string(), Call::Offer),
@@ -215,12 +217,15 @@ mod tests {
         {
             assert_eq!(call(line), None, "{line}");
         }
+        for line in ["Z", "Z ", "Z 1", "Z 1 2 3", "Z 256 0", "Z 1 x"] {
+            assert_eq!(call(line), None, "{line}");
+        }
         for line in ["T", "T ", "T 1", "T 0 1", "T 2 1", "T 1 1 2", "T 18446744073709551615", "T 4294967296"] {
             assert_eq!(call(line), None, "{line}");
         }
         // names, also those of calls that are not there yet
         for line in
-            ["Q", "x", "w 137 1", "d", "o", "Z 127 5", "VR", "VW 3 1", "B 1 2 3", "P", "Q 00", "H 1 0", "F 127", "G 127 1", "?"]
+            ["Q", "x", "w 137 1", "d", "o", "z 127 5", "VR", "VW 3 1", "B 1 2 3", "P", "Q 00", "H 1 0", "F 127", "G 127 1", "?"]
         {
             assert_eq!(call(line), None, "{line}");
         }

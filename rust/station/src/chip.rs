@@ -12,8 +12,7 @@ pub trait Chip {
     /// One cycle; gives the output line.
     fn cycle(&mut self, pins: u8) -> u8;
     fn jump(&mut self, pins: u8, n: u64);
-    fn look_ahead(&self, pins: u8, n: u64) -> Option<u64>;
-    fn offer(&self) -> Option<u8>;
+    fn wake_look(&self, pins: u8, n: u64) -> Option<u64>;
     fn take(&mut self) -> u8;
     fn return_from_interrupt(&mut self);
     fn record(&self) -> Device;
@@ -43,12 +42,8 @@ impl Chip for Device {
         self.jump(pins, n).expect(PASSES)
     }
 
-    fn look_ahead(&self, pins: u8, n: u64) -> Option<u64> {
-        self.look_ahead(pins, n).expect(PASSES)
-    }
-
-    fn offer(&self) -> Option<u8> {
-        self.offer().expect(PASSES)
+    fn wake_look(&self, pins: u8, n: u64) -> Option<u64> {
+        self.wake_look(pins, n).expect(PASSES)
     }
 
     fn take(&mut self) -> u8 {

@@ -1,4 +1,5 @@
-//! Stations that read tags: each an 80C52 at 11.0592 MHz whose serial port receives 9600 baud in mode 1, clocked by Timer 1.
+//! Stations that read tags: each an 80C52 at 11.0592 MHz whose serial port receives 9600 baud in mode 1, clocked by Timer 1,
+//! and which sleeps in idle until a byte is there.
 pub mod chip;
 pub mod frame;
 pub mod options;

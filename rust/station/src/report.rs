@@ -35,11 +35,13 @@ pub fn table(rows: &[Row]) -> String {
     }
     let wrong = rows.iter().filter(|row| !row.right()).count();
     let noisy: u64 = rows.iter().map(|row| row.noisy_samples).sum();
+    let woken: usize = rows.iter().map(|row| row.woken).sum();
     let (tags, digits) = (rows.len(), rows.len() * DIGITS);
     text += &match wrong {
-        0 => format!("{tags} tags, {digits} digits, all as sent; {noisy} noisy samples\n"),
-        _ => format!("{tags} tags, {wrong} of them WRONG; {noisy} noisy samples\n"),
+        0 => format!("{tags} tags, {digits} digits, all as sent"),
+        _ => format!("{tags} tags, {wrong} of them WRONG"),
     };
+    text += &format!("; {noisy} noisy samples; woken from idle {woken} times\n");
     text
 }
 

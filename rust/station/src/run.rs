@@ -34,6 +34,8 @@ pub struct Row {
     pub tag: String,
     pub sent: String,
     pub noisy_samples: u64,
+    /// How often an interrupt woke the station.
+    pub woken: usize,
 }
 
 impl Row {
@@ -88,9 +90,10 @@ impl<C: Chip> Station<C> {
         self.reader.hold(Stretch { rxd: 1, cycles: BIT });
         let received = self.reader.take_received();
         let cycle = received.last().map_or(0, |last| last.cycle);
+        let woken = received.iter().filter(|r| r.woke).count();
         let bytes: Vec<u8> = received.iter().map(|r| r.byte).collect();
         let tag = shown(&bytes);
-        Row { station: self.number, cycle, tag, sent, noisy_samples }
+        Row { station: self.number, cycle, tag, sent, noisy_samples, woken }
     }
 }
 

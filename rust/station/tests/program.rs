@@ -28,7 +28,8 @@ fn eleven_stations_read_what_was_sent() {
     assert!(rows.iter().all(|row| row[3].len() == 15 && row[5..] == ["as", "sent"]));
     let noisy: u64 = rows.iter().map(|row| row[4].parse::<u64>().unwrap()).sum();
     assert!(noisy > 20);
-    assert_eq!(out.lines().last(), Some(format!("22 tags, 330 digits, all as sent; {noisy} noisy samples").as_str()));
+    let summary = format!("22 tags, 330 digits, all as sent; {noisy} noisy samples; woken from idle 352 times");
+    assert_eq!(out.lines().last(), Some(summary.as_str()));
     let progress = text(&ran.stderr);
     assert!(progress.starts_with("3 of 22 tags,") && progress.contains("\n22 of 22 tags,"), "{progress}");
 }
@@ -60,7 +61,7 @@ fn chosen_tags() {
     let out = text(&ran.stdout);
     let tags: Vec<&str> = out.lines().skip(1).take(2).map(|line| line.split_whitespace().nth(3).unwrap()).collect();
     assert_eq!(tags, ["123456789012345", "000000000000000"]);
-    assert!(out.ends_with("2 tags, 30 digits, all as sent; 0 noisy samples\n"));
+    assert!(out.ends_with("2 tags, 30 digits, all as sent; 0 noisy samples; woken from idle 32 times\n"));
 }
 
 #[test]

@@ -20,7 +20,8 @@ returns-2 c =
     let o = c .before in
     let a = o .before .before in
     let e = o .offered .ensures in
-    told replyOfOffer (rw (yes (a .accepts .ensures) (o .before .if1 .left), offered-none (a .before .args .d .interrupts) (omega (arith, e))))
+    let d = a .before .args .d in
+    told replyOfOffer (rw (yes (a .accepts .ensures) (o .before .if1 .left), offered-none (d .pcon) (d .interrupts) (omega (arith, e))))
 
 returns-3 : tie.Need-returns-3
 unfolding offerAnswer offerOf play
@@ -28,7 +29,8 @@ returns-3 c =
     let o = c .before .before in
     let a = o .before .before in
     let e = o .offered .ensures in
-    told replyOfOffer (rw (yes (a .accepts .ensures) (o .before .if1 .left), offered-below (a .before .args .d .interrupts) (omega (arith, e)) ∙ ap source (sym e), c .vector-of .ensures))
+    let d = a .before .args .d in
+    told replyOfOffer (rw (yes (a .accepts .ensures) (o .before .if1 .left), offered-below (d .pcon) (d .interrupts) (omega (arith, e)) ∙ ap source (sym e), c .vector-of .ensures))
 
 pub offer-spec : {M : Type 1} → statement M
 offer-spec = tie.close (tie.spec (search needs) returns (search needs) returns-2 (search needs) returns-3)

@@ -2,7 +2,8 @@
 use borrow.Author.Tests.{le-leb, lt-leb}
 use Rattle.machine.specs.Calls.{lookAnswer}
 use Rattle.machine.specs.Lists.{play, replyOfLook}
-use Rattle.jump.proofs.Taken.{ready-taken, look-taken}
+use Rattle.jump.proofs.Taken.{ready-taken}
+use Rattle.looks.proofs.Taken.{rise-taken}
 use borrow.Author.Needs.{needs}
 use Rattle.laws.proofs.Guards.{yes, no, told}
 use Rattle.c51_run.proofs.look.Statement.{statement}
@@ -39,7 +40,7 @@ returns-4 c =
     let p = n .before .before in
     let x = p .before .before .before .args in
     let ok = yes (p .before .before .accepts .ensures) (p .before .if1 .left) in
-    let first = look-taken (x .pins) (x .d) (l .pins-of .ensures) 0 (x .n) (c .first-rise .ensures) in
+    let first = rise-taken (x .pins) (x .d) (l .pins-of .ensures) (x .n) (c .first-rise .ensures) in
     told replyOfLook (rw (ok, yes (p .pins-ok .ensures) (n .before .if2 .left), le-leb _ _ (n .if3 .left)) first)
 
 pub look-spec : {M : Type 1} → statement M

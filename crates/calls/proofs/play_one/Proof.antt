@@ -42,10 +42,14 @@ returns-9 : tie.Need-returns-9
 unfolding play callOf
 returns-9 c = simp (c .shown-take .ensures, c .before .take .ensures, c .before .before .match .keys9)
 
--- any other number: none of the nine
 returns-10 : tie.Need-returns-10
 unfolding play callOf
-returns-10 c =
+returns-10 c = simp (c .shown-look2 .ensures, c .before .wake .ensures .0, c .before .before .byte-in8 .ensures, c .before .before .before .match .keys10)
+
+-- any other number: none of the ten
+returns-11 : tie.Need-returns-11
+unfolding play callOf
+returns-11 c =
     let n0 = c .before .before .match .rest in
     let n1 = n0 .0 in
     let n2 = n1 .0 in
@@ -54,7 +58,8 @@ returns-10 c =
     let n5 = n4 .0 in
     let n6 = n5 .0 in
     let n7 = n6 .0 in
-    simp (c .shown-plain3 .ensures, c .before .reti .ensures, ne-eqb _ _ (n7 .0 .1), ne-eqb _ _ (n7 .1), ne-eqb _ _ (n6 .1), ne-eqb _ _ (n5 .1), ne-eqb _ _ (n4 .1), ne-eqb _ _ (n3 .1), ne-eqb _ _ (n2 .1), ne-eqb _ _ (n1 .1), ne-eqb _ _ (n0 .1))
+    let n8 = n7 .0 in
+    simp (c .shown-plain3 .ensures, c .before .reti .ensures, ne-eqb _ _ (n8 .0 .1), ne-eqb _ _ (n8 .1), ne-eqb _ _ (n7 .1), ne-eqb _ _ (n6 .1), ne-eqb _ _ (n5 .1), ne-eqb _ _ (n4 .1), ne-eqb _ _ (n3 .1), ne-eqb _ _ (n2 .1), ne-eqb _ _ (n1 .1), ne-eqb _ _ (n0 .1))
 
 pub play-one-spec : {M : Type 1} → statement M
 play-one-spec =
@@ -63,5 +68,5 @@ play-one-spec =
     (search needs) (search needs) (search needs) (search needs) (search needs) (search needs) (search needs) (search needs)
     (search needs) (search needs) (search needs) (search needs) (search needs) (search needs) (search needs) (search needs)
     (search needs) (search needs) (search needs) (search needs) (search needs) (search needs) (search needs) (search needs)
-    (search needs) (search needs) (search needs) (search needs)
-    returns returns-2 returns-3 returns-4 returns-5 returns-6 returns-7 returns-8 returns-9 returns-10)
+    (search needs) (search needs) (search needs) (search needs) (search needs) (search needs) (search needs)
+    returns returns-2 returns-3 returns-4 returns-5 returns-6 returns-7 returns-8 returns-9 returns-10 returns-11)

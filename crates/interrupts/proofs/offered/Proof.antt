@@ -1,21 +1,19 @@
--- `offered` is the number of the source offered: its masks are the sources that ask, by the law on each bit.
-use mathlib.Core.Path.{ap}
-use Rattle.machine.specs.Registers.{EA}
-use Rattle.laws.proofs.Bits.{and-one}
-use Rattle.interrupts.specs.Number.{numberOf}
-use Rattle.interrupts.proofs.Laws.{offered-by-masks}
+-- `offered` is the number of the source offered: the test of power-down, and then the choice.
+use mathlib.Core.Path.{sym, _∙_}
 use borrow.Author.Needs.{needs}
+use Rattle.machine.specs.Interrupts.{offered}
 use Rattle.interrupts.proofs.offered.Statement.{statement}
 use Rattle.interrupts.proofs.offered.Tie as tie
 
 returns : tie.Need-returns
-returns c =
-    let two = c .before .before .before .before in
-    let one = two .before .before .before .before in
-    let i = one .before .before .before .args .i in
-    simp (c .first-of .ensures, c .before .picked4 .ensures, c .before .before .before .picked3 .ensures, two .picked2 .ensures, one .picked .ensures, and-one (i .ie) EA)
-    (ap numberOf (offered-by-masks i))
+unfolding offered
+returns c = rw (sym (c .before .powered-down .ensures) ∙ c .if1 .taken)
+
+returns-2 : tie.Need-returns-2
+unfolding offered
+returns-2 c =
+    let p = c .before in
+    rw (sym (p .before .powered-down .ensures) ∙ p .if1 .left) (c .choice .ensures)
 
 pub offered-spec : {M : Type 1} → statement M
-offered-spec =
-    tie.close (tie.spec (search needs) (search needs) (search needs) (search needs) (search needs) returns)
+offered-spec = tie.close (tie.spec (search needs) returns (search needs) returns-2)

@@ -21,7 +21,8 @@ returns-2 c =
     let n = t .before .before .before .before .before .before .before in
     let s = n .before .settled-serial in
     let rests = simp bits at (sym (s .ensures) ∙ not-false (s .result) (n .if1 .left)) in
-    simp (bits, rests, c .settled-interrupts .ensures, t .settled-timers .ensures, t .before .same-levels .ensures, t .before .before .seen-of .ensures)
+    let awake = n .before .before .before .pre in
+    simp (bits, rests, awake, c .settled-interrupts .ensures, t .settled-timers .ensures, t .before .same-levels .ensures, t .before .before .seen-of .ensures)
 
 pub settled-spec : {M : Type 1} → statement M
 settled-spec =

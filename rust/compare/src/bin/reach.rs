@@ -5,8 +5,8 @@ use std::io::{Read, Write};
 use std::process::exit;
 
 const USAGE: &str = "usage: reach <SCRIPT
-  reads a call script on standard input, follows it with the model, and writes it with only those jumps, look aheads and
-  trace entries shortened that take too many cycles before the chip rests
+  reads a call script on standard input, follows it with the model, and writes it with only those jumps, look aheads,
+  wake looks and trace entries shortened that take too many cycles before the chip rests
   --help  print this";
 
 fn fail(message: &str) -> ! {

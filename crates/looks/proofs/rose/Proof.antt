@@ -2,10 +2,10 @@
 use mathlib.Core.Path.{_∙_}
 use mathlib.Core.Bool.{_||_}
 use Prim.Native.Nat.{_≤_}
-use Rattle.jump.proofs.Flags.{tcon-rises, scon-rises, t2con-rises, flags-rise}
+use Rattle.looks.proofs.Flags.{tcon-rises, scon-rises, t2con-rises, flags-rise}
 use native.Mathlib.Omega.{arith}
-use Rattle.jump.proofs.rose.Statement.{statement}
-use Rattle.jump.proofs.rose.Tie as tie
+use Rattle.looks.proofs.rose.Statement.{statement}
+use Rattle.looks.proofs.rose.Tie as tie
 
 returns : tie.Need-returns
 returns c =

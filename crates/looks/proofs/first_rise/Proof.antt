@@ -2,23 +2,23 @@
 use mathlib.Core.Path.{_≡_, sym, ap, _∙_}
 use Prim.Native.Nat.{ℕ, _-_, _≤_}
 use native.Mathlib.Omega.{arith}
-use Rattle.machine.specs.Calls.{firstRise}
-use Rattle.strides.proofs.Rises.{on-none}
+use Rattle.machine.specs.Calls.{rises, firstCycle}
 use Rattle.jump.specs.Rounds.{Ready}
-use Rattle.jump.proofs.Rounds.{quiet-look, round-used, round-ready, look-here, look-on}
-use Rattle.jump.proofs.Idles.{idle-look}
+use Rattle.jump.proofs.Rounds.{round-used, round-ready}
+use Rattle.looks.proofs.Looks.{hears-rises, on-none}
+use Rattle.looks.proofs.Rounds.{quiet-look, idle-look, look-here, look-on}
 use borrow.Author.Needs.{needs}
-use Rattle.jump.proofs.first_rise.Statement.{statement}
-use Rattle.jump.proofs.first_rise.Tie as tie
+use Rattle.looks.proofs.first_rise.Statement.{statement}
+use Rattle.looks.proofs.first_rise.Tie as tie
 
 abbrev Inv-loop : tie.InvT-loop
-Inv-loop pins n at₀ done₀ at done = Ready pins at × (done ≤ n) × (firstRise done (n - done) pins at ≡ firstRise 0 n pins at₀)
+Inv-loop pins n at₀ done₀ at done = Ready pins at × (done ≤ n) × (firstCycle rises done (n - done) pins at ≡ firstCycle rises 0 n pins at₀)
 
 abbrev μ-loop : tie.MeasureT-loop
 μ-loop pins n at₀ done₀ at done = n - done
 
 loop-holds : tie.Need-loop-holds Inv-loop μ-loop
-loop-holds c = (c .pre .0, omega arith, ap (λ (k : ℕ). firstRise 0 k (c .args .pins) (c .args .d)) (omega arith))
+loop-holds c = (c .pre .0, omega arith, ap (λ (k : ℕ). firstCycle rises 0 k (c .args .pins) (c .args .d)) (omega arith))
 
 idles-requires : tie.Need-idles-requires Inv-loop μ-loop
 idles-requires c κs = c .ahead .ensures .0
@@ -27,7 +27,7 @@ returns : tie.Need-returns Inv-loop μ-loop
 returns c =
     let q = c .before in
     let w = q .before .before .before in
-    idle-look (w .before .args .pins) (w .loop .at) (w .loop .inv .0) (q .idles .ensures) (c .if1 .taken) (w .loop .done) (w .before .args .n - w .loop .done) (w .loop .inv .2)
+    idle-look hears-rises (w .before .args .pins) (w .loop .at) (w .loop .inv .0) tt (q .idles .ensures) (c .if1 .taken) (w .loop .done) (w .before .args .n - w .loop .done) (w .loop .inv .2)
 
 sub-left : tie.Need-sub-left Inv-loop μ-loop
 sub-left c = omega arith
@@ -36,7 +36,7 @@ returns-2 : tie.Need-returns-2 Inv-loop μ-loop
 returns-2 c =
     let h = c .before .before .before .before in
     let w = h .before .before in
-    quiet-look (w .before .args .pins) (w .before .args .n - w .loop .done) (w .loop .at) (w .loop .inv .0) (h .ahead .ensures .1) (c .if2 .taken) (w .loop .done) (w .loop .inv .2)
+    quiet-look hears-rises (w .before .args .pins) (w .before .args .n - w .loop .done) (w .loop .at) (w .loop .inv .0) tt (h .ahead .ensures .1) (c .if2 .taken) (w .loop .done) (w .loop .inv .2)
 
 one-round-requires : tie.Need-one-round-requires Inv-loop μ-loop
 one-round-requires c κs =
@@ -50,7 +50,7 @@ returns-3 : tie.Need-returns-3 Inv-loop μ-loop
 returns-3 c = let o = c .before .before .before .before in
     let t = o .before .before .before .before .before .before in
     let l = t .before in
-    look-here _ _ _ _ (t .loop-test .taken) (o .one-round .ensures) (l .loop .inv .0 .good) (l .loop .inv .2) (sym (c .before .rose .ensures) ∙ c .if3 .taken)
+    look-here hears-rises _ _ _ _ (t .loop-test .taken) (o .one-round .ensures) (l .loop .inv .0 .good) tt (l .loop .inv .2) (sym (c .before .rose .ensures) ∙ c .if3 .taken)
 
 loop-less : tie.Need-loop-less Inv-loop μ-loop
 loop-less c = let o = c .before .before .before .before in
@@ -62,11 +62,11 @@ loop-again c = let o = c .before .before .before .before in
     let l = t .before in (
       round-ready _ _ _ (o .one-round .ensures) (omega arith) (l .loop .inv .0),
       omega (arith, round-used _ _ _ (o .one-round .ensures) (omega arith)),
-      look-on _ _ _ _ (t .loop-test .taken) (o .one-round .ensures) (l .loop .inv .0 .good) (l .loop .inv .2) (sym (c .before .rose .ensures) ∙ c .if3 .left),
+      look-on hears-rises _ _ _ _ (t .loop-test .taken) (o .one-round .ensures) (l .loop .inv .0 .good) tt (l .loop .inv .2) (sym (c .before .rose .ensures) ∙ c .if3 .left),
     )
 
 returns-4 : tie.Need-returns-4 Inv-loop μ-loop
-returns-4 c = on-none _ _ _ _ (c .before .loop .inv .2) (c .loop-test .left)
+returns-4 c = on-none rises _ _ _ _ (c .before .loop .inv .2) (c .loop-test .left)
 
 pub first-rise-spec : {M : Type 1} → statement M
 first-rise-spec =

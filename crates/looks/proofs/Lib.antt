@@ -1,0 +1,4 @@
+pub mod Flags
+pub mod Looks
+pub mod Rounds
+pub mod Taken

@@ -1,0 +1,79 @@
+// Looks by the rounds of a jump: the first cycle in which a flag rises, and the first after which an interrupt is offered. `pins` is
+// the pin byte as the kind takes it.
+ghost use mathlib.Core.Path.{_≡_};
+ghost use Prim.Native.Nat.{_≤_};
+ghost use Rattle.machine.specs.Calls.{longest, rises, firstRise, firstOffer};
+ghost use Rattle.jump.specs.Rounds.{Ready};
+use machine::Device;
+use machine::LookAnswer;
+use machine::places::SCON_FLAGS;
+use machine::places::T2CON_FLAGS;
+use machine::places::TCON_FLAGS;
+
+// A flag that is 0 before and 1 after: TF1, TF0, IE1, IE0 in TCON, TI, RI in SCON, TF2, EXF2 in T2CON.
+fn rose(before: Device, after: Device) -> bool
+    ensures { λ r. ⌜ r ≡ rises before after ⌝ }
+{
+    let tcon = (!before.timers.tcon & after.timers.tcon) & TCON_FLAGS;
+    let scon = (!before.serial.scon & after.serial.scon) & SCON_FLAGS;
+    let t2con = (!before.timer2.t2con & after.timer2.t2con) & T2CON_FLAGS;
+    (!(tcon == 0) | !(scon == 0)) | !(t2con == 0)
+}
+
+// The first of n cycles in which a flag rises, or none, by the same rounds. Where Timer 1's reload is all that happens, and
+// in a quiet run to the end, none rises.
+pub fn first_rise(d: Device, pins: u8, n: u64) -> LookAnswer
+    requires { ⌜ Ready pins d × (n ≤ longest) ⌝ }
+    ensures { λ r. ⌜ r ≡ firstRise n pins d ⌝ }
+{
+    let mut at = d;
+    let mut done = 0;
+    while done < n {
+        let ahead = quiet::ahead(at, pins);
+        if reload::idles(at, pins, ahead.settled) {
+            return LookAnswer::Nothing;
+        }
+        let left = n - done;
+        if ahead.room >= left {
+            return LookAnswer::Nothing;
+        }
+        let r = jump::one_round(at, pins, left, ahead.room);
+        let e = r.device;
+        done += r.used;
+        if rose(at, e) {
+            return LookAnswer::At(done);
+        }
+        at = e;
+    }
+    LookAnswer::Nothing
+}
+
+// The first k from 0 to n after which an interrupt is offered, or none, by the same rounds: 0 where one is offered already. Where
+// Timer 1's reload is all that happens, and in a quiet run to the end, as in power-down, none comes.
+pub fn first_offer(d: Device, pins: u8, n: u64) -> LookAnswer
+    requires { ⌜ Ready pins d × (n ≤ longest) ⌝ }
+    ensures { λ r. ⌜ r ≡ firstOffer n pins d ⌝ }
+{
+    if interrupts::offers(d.pcon, d.interrupts) {
+        return LookAnswer::At(0);
+    }
+    let mut at = d;
+    let mut k = 0;
+    while k < n {
+        let ahead = quiet::ahead(at, pins);
+        if reload::idles(at, pins, ahead.settled) {
+            return LookAnswer::Nothing;
+        }
+        let left = n - k;
+        if left <= ahead.room {
+            return LookAnswer::Nothing;
+        }
+        let r = jump::one_round(at, pins, left, ahead.room);
+        at = r.device;
+        k += r.used;
+        if interrupts::offers(at.pcon, at.interrupts) {
+            return LookAnswer::At(k);
+        }
+    }
+    LookAnswer::Nothing
+}
