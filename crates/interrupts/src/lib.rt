@@ -61,7 +61,7 @@ fn first_of(sources: u8) -> u8
     u8::trailing_zeros(sources | (1 << NONE)) as u8
 }
 
-// The number of the source that the controller would serve, or NONE.
+// The number of the source that is offered out of power-down, or NONE.
 fn choice(i: Interrupts) -> u8
     ensures { λ r. ⌜ r ≡ numberOf (Interrupt.choice i) ⌝ }
 {

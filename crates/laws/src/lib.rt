@@ -1,4 +1,4 @@
-// Laws of bits and fields for any place, and of counting for any width: proofs/. Here what the parts share.
+// Laws of bits and fields for any place, of counting for any width, and of sleep: proofs/. Here what the parts share.
 ghost use mathlib.Core.Path.{_≡_};
 ghost use mathlib.Core.Bool.{cond};
 ghost use Prim.Native.Nat.{_<_, min};

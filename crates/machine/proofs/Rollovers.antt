@@ -1,7 +1,7 @@
 -- No accepted device meets a double rollover: a cycle brings a serial counter at most six ticks, by what the timers can overflow and
 -- by the modes; and n ticks from count c roll it over at most (c + n) / 16 times, by induction.
 use mathlib.Core.Path.{_≡_, refl, ap, _∙_}
-use mathlib.Core.Bool.{true, false, _&&_, _||_}
+use mathlib.Core.Bool.{true, false, cond, _&&_, _||_}
 use Prim.Native.Nat.{ℕ, zero, suc, _+_, _-_, _/_, _%_, _≤_, zero-le}
 use native.Mathlib.Omega.{arith}
 use lib.Dec.{eqb, leb}
@@ -11,15 +11,16 @@ use Rattle.machine.specs.declared.Serial.{Serial}
 use Rattle.machine.specs.declared.Device.{Device}
 use Rattle.machine.specs.Bits.{bit, setBit, putBit}
 use Rattle.machine.specs.Registers.{SMOD, SM2, RB8, TI, RI, RCLK, TCLK, T2EX, TL1, TH1, RCAP2L, RCAP2H, TL2, TH2}
+use Rattle.machine.specs.Power.{poweredDown}
 use Rattle.machine.specs.Record.{registers, hiddenFields, accepted, pinsOf, serialMode, lastPosition}
 use Rattle.machine.specs.Timers.{timersStep}
 use Rattle.machine.specs.Timer2.{timer2Step}
 use Rattle.machine.specs.Serial as S
 use Rattle.machine.specs.Serial.{withSend, withReceive, withReceived, sendAt, receiveAt, withVotes, withValue, sendCounted, counterNext, rollsOver}
-use Rattle.machine.specs.Cycle.{falls, counted, ticksIn, steps}
+use Rattle.machine.specs.Cycle.{falls, counted, ticksIn, steps, cycleOf}
 use Rattle.machine.specs.Calls.{valueIn}
 use Rattle.machine.specs.Rollovers.{sendRollovers, receiveRollovers, ticksOfCycle, handedOn, sentIn, rxdIn, receivedIn, mostTicks, FewTicks, AtMostOneRollover}
-use Rattle.machine.proofs.Choices.{chosen, cond-has, by-test}
+use Rattle.machine.proofs.Choices.{chosen, cond-has, cond-ap, by-test}
 use Rattle.machine.proofs.Accepted.{Each, Most, byte, hidden-most}
 use Rattle.machine.proofs.Accepted.Each.{_&_}
 use Rattle.machine.proofs.Overflowing.{timer1-once, timer2-few}
@@ -205,9 +206,9 @@ counters d (sendPosition & sendValue & sendCounter & receivePosition & receiveVa
     record { send = sendCounter; receive = receiveCounter }
 
 -- step 5 as the cycle has it
-in-cycle : (pins : ℕ) (d : Device) → steps d (pinsOf (d .kind) pins) .serial ≡ receivedIn pins d
-unfolding steps S.serialStep
-in-cycle pins d = refl
+in-cycle : (pins : ℕ) (d : Device) → cycleOf pins d .serial ≡ cond (poweredDown (d .pcon)) (d .serial) (receivedIn pins d)
+unfolding cycleOf steps S.serialStep
+in-cycle pins d = cond-ap (λ (e : Device). e .serial) (poweredDown (d .pcon)) _ _
 
 pub one-rollover : (pins : ℕ) (d : Device) → accepted d ≡ true → AtMostOneRollover pins d
 unfolding Receives

@@ -200,7 +200,7 @@ rises before after = anyRises (flags before) (flags after)
 abbrev pub firstRise : ℕ → ℕ → Device → LookAnswer
 firstRise n pins d = firstCycle rises 0 n pins d
 
--- a look that passes answers what it found
+-- a look is refused by 1, 4 and 5, and one that passes answers what it found
 abbrev pub judgedLook : Device → ℕ → ℕ → LookAnswer → LookAnswer
 judgedLook d pins n found =
     unless (accepted d) (Look.Refused 1)

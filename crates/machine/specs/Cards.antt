@@ -64,7 +64,7 @@ passes = says 0 nothing
 abbrev gives : ℕ → Reply
 gives n = says 0 (number n)
 
--- every pin high; T0 low; RXD low
+-- every pin high; T0 low; RXD low; INT0 low
 abbrev high : ℕ
 high = 0x7f
 
@@ -73,6 +73,9 @@ lowT0 = 0x77
 
 abbrev lowRXD : ℕ
 lowRXD = 0x7e
+
+abbrev lowINT0 : ℕ
+lowINT0 = 0x7d
 
 -- write v at a
 abbrev set : ℕ → ℕ → Asked
@@ -307,8 +310,8 @@ card11 kind =
     ∷ []
     )
 
--- PD with IDL, a timer running and an interrupt offered before: no cycle, jump or trace run moves anything, the cycle number stands, the
--- line is answered, nothing is offered and no flag rises
+-- PD with IDL, a timer running and an interrupt offered before: no cycle, jump or trace run moves anything, the cycle number stands,
+-- nothing is offered, and INT0 low raises no flag
 card12 : ℕ → Row
 card12 kind =
     rowWith (λ d. eqb (d .cycle) 2) 12 kind (
@@ -317,13 +320,28 @@ card12 kind =
     ∷ go 2
     ∷ offers 0x0b
     ∷ set PCON 0x03
-    ∷ step lowRXD
-    ∷ go 1000
-    ∷ asked (trace (0x7f000005 ∷ [])) passes
+    ∷ step lowINT0
+    ∷ asked (jump lowINT0 1000) passes
+    ∷ asked (trace (0x7d000005 ∷ [])) passes
+    ∷ asked (look lowINT0 1000) (says 0 none)
+    ∷ holds TCON 0x30
     ∷ holds TL0 2
     ∷ holds PCON 0x03
     ∷ offersNone
-    ∷ asked (look high 1000) (says 0 none)
+    ∷ []
+    )
+
+-- a cycle answers the line as the device stands: the start bit of a frame that goes no further
+card12line : ℕ → Row
+card12line kind =
+    rowOf 12 kind (
+    set SCON 0x80
+    ∷ set SBUF 0xff
+    ∷ go 6
+    ∷ set PCON 0x02
+    ∷ asked (cycle high) (gives 0)
+    ∷ go 100
+    ∷ asked (cycle high) (gives 0)
     ∷ []
     )
 
@@ -381,7 +399,11 @@ card15 kind =
 card16 : ℕ → Row
 card16 kind =
     rowOf 16 kind (
-    set TCON 0x20
+    set TMOD 0x01
+    ∷ set TH0 0xff
+    ∷ set TL0 0xfe
+    ∷ set TCON 0x10
+    ∷ asked (look high 9) (gives 2)
     ∷ wakesNone 9
     ∷ asked (wake 0x80 9) (says 4 (number 0))
     ∷ asked (wake high 0x10000000001) (says 5 (number 0))
@@ -424,6 +446,7 @@ cards =
     ∷ both (card10 0x50 0x23 0xff)
     ∷ both card11
     ∷ both card12
+    ∷ both card12line
     ∷ both card13
     ∷ both card14
     ∷ both card15
@@ -438,5 +461,5 @@ failing (r ∷ rs) = cond (r .test (machine (r .kind) (r .calls))) (failing rs) 
 
 -- no row fails
 cards-hold : failing cards ≡ []
-unfolding sameNumbers sameValue sameReply sameReplies rowWith card1 card2 card3 card4 baud2 card5 card5counted mode1send card6 card6half card7 card8 card8shift card9 card10 card11 card12 card13 card14 card15 card16 both joined cards failing table implementedIn implemented registers hiddenFields accepted pinsOf levelsOf zeros resetOf count13 count16 reload8 count8 hold enabled clocked countIn flagged counts0 counts1 countsHigh0 pair0 high0 highOverflow0 pair1 timerFlags timersStep countOnce countTimes baudRate countsOf2 heedsT2EX captures counted2 baudStep copied2 captureStep timer2Step halfAfter ticks1 ticksOf serialTicks sendMove sendTick sendTicks send lineOf startFound receiveStart receiveRolled receiveCounted votesAdded bitOf frameDone receiveBit receiveWork receiveTick receiveTicks receiveShift receive serialStep writeSbuf receiveAsked writeScon external either seenOf firstOf choice offered inService taken returned falls counted externals timersAfter timer2After ticksIn stepsOf cycleOf cycles resetAnswer valueIn registerAt readAnswer stored writeAnswer cycleAnswer jumpAnswer entryFault firstBad traceFault traceCycles traceAnswer flags anyRises firstCycle lookAnswer wakeAnswer offerOf offerAnswer takeOf takeAnswer returnAnswer play run machine
+unfolding sameNumbers sameValue sameReply sameReplies rowWith card1 card2 card3 card4 baud2 card5 card5counted mode1send card6 card6half card7 card8 card8shift card9 card10 card11 card12 card12line card13 card14 card15 card16 both joined cards failing table implementedIn implemented registers hiddenFields accepted pinsOf levelsOf zeros resetOf count13 count16 reload8 count8 hold enabled clocked countIn flagged counts0 counts1 countsHigh0 pair0 high0 highOverflow0 pair1 timerFlags timersStep countOnce countTimes baudRate countsOf2 heedsT2EX captures counted2 baudStep copied2 captureStep timer2Step halfAfter ticks1 ticksOf serialTicks sendMove sendTick sendTicks send lineOf startFound receiveStart receiveRolled receiveCounted votesAdded bitOf frameDone receiveBit receiveWork receiveTick receiveTicks receiveShift receive serialStep writeSbuf receiveAsked writeScon external either seenOf firstOf choice offered inService taken returned falls counted externals timersAfter timer2After ticksIn stepsOf cycleOf cycles resetAnswer valueIn registerAt readAnswer stored writeAnswer cycleAnswer jumpAnswer entryFault firstBad traceFault traceCycles traceAnswer flags anyRises firstCycle lookAnswer wakeAnswer offerOf offerAnswer takeOf takeAnswer returnAnswer play run machine
 cards-hold = refl

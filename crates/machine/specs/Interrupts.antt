@@ -36,6 +36,7 @@ pub data Source : Type 0 where
   none : Source
   source : ℕ → Source
 
+-- it is a source
 abbrev pub someSource : Source → Bool
 someSource none = false
 someSource (source i) = true

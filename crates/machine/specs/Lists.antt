@@ -1,4 +1,5 @@
--- Document 01, "The plain machine": a list of calls, the answers to it and the state at its end.
+-- Document 01, "The plain machine": a list of calls, the answers to it and the state at its end. Document 02, request One: wake looks
+-- are among them.
 use Prim.Native.Nat.{ℕ}
 use mathlib.Core.List.{List, [], _∷_}
 use Rattle.machine.specs.declared.Device.{Device}

@@ -9,9 +9,10 @@ use Rattle.machine.specs.declared.Ticks.{Ticks}
 use Rattle.machine.specs.declared.Device.{Device}
 use Rattle.machine.specs.Bits.{bit}
 use Rattle.machine.specs.Registers.{RXD}
+use Rattle.machine.specs.Power.{poweredDown}
 use Rattle.machine.specs.Record.{pinsOf}
 use Rattle.machine.specs.Serial.{withHalf, rollsOver, sendTick, send, receiveTick, receive}
-use Rattle.machine.specs.Cycle.{counted, ticksIn, steps}
+use Rattle.machine.specs.Cycle.{counted, ticksIn, cycleOf}
 
 -- how often the send counter rolls over in n ticks
 unfoldable pub sendRollovers : ℕ → Serial → ℕ
@@ -58,10 +59,10 @@ pub record FewTicks (k : Ticks) : Type 0 where
   pub send : k .send ≤ mostTicks
   pub receive : k .receive ≤ mostTicks
 
--- what the steps of the cycle make of the serial port is this sending and receiving; each counter gets at most six ticks and rolls
--- over at most once. In power-down a cycle has no steps, and no counter moves
+-- what the cycle makes of the serial port is this sending and receiving, and in power-down nothing; each counter gets at most six
+-- ticks and rolls over at most once
 pub record AtMostOneRollover (pins : ℕ) (d : Device) : Type 0 where
-  pub cycle : steps d (pinsOf (d .kind) pins) .serial ≡ receivedIn pins d
+  pub cycle : cycleOf pins d .serial ≡ cond (poweredDown (d .pcon)) (d .serial) (receivedIn pins d)
   pub ticks : FewTicks (ticksOfCycle pins d)
   pub sendOnce : sendRolloversIn pins d ≤ 1
   pub receiveOnce : receiveRolloversIn pins d ≤ 1

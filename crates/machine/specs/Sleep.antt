@@ -1,5 +1,5 @@
--- Document 02, request One: what power-down and idle mean for every device and every call. Theorems, proved in proofs/Sleep.antt; no rule
--- asks for them.
+-- Document 02, request One: what power-down means for every device and every call, and idle for every cycle and offer. No rule asks for
+-- it; the theorems of crates/laws/proofs/Sleep.antt are stated with it.
 use Prim.Native.Nat.{ℕ}
 use mathlib.Core.Path.{_≡_}
 use mathlib.Core.List.{List, [], _∷_}
@@ -10,7 +10,7 @@ use Rattle.machine.specs.Registers.{IDL}
 use Rattle.machine.specs.Interrupts.{offered}
 use Rattle.machine.specs.Interrupts.Source.{none}
 use Rattle.machine.specs.Cycle.{cycles}
-use Rattle.machine.specs.Calls.{judgedLook, lookAnswer, wakeAnswer}
+use Rattle.machine.specs.Calls.{judgedLook, lookAnswer, wakeAnswer, withInterrupts}
 use Rattle.machine.specs.Lists.{Call, run}
 use Rattle.machine.specs.Lists.Call.{reset, read, write, cycle, jump, trace, look, offer, take, return, wake}
 
@@ -42,17 +42,7 @@ pub record Sleeps (d : Device) : Type 0 where
 
 -- the device with IDL set
 unfoldable pub idling : Device → Device
-idling d =
-    record {
-      kind = d .kind;
-      pcon = setBit IDL (d .pcon);
-      timers = d .timers;
-      timer2 = d .timer2;
-      serial = d .serial;
-      interrupts = d .interrupts;
-      levels = d .levels;
-      cycle = d .cycle;
-    }
+idling d = withInterrupts (setBit IDL (d .pcon)) (d .timers) (d .interrupts) d
 
 -- Idle: cycles do what they do without IDL, and the same is offered
 pub record GoesOn (d : Device) : Type 0 where

@@ -3,7 +3,7 @@
 pub mod places;
 pub mod refusals;
 
-// The most cycles of a jump and of a look ahead, and the most entries of a trace.
+// The most cycles of a jump and of a look, and the most entries of a trace.
 pub const LONGEST: u64 = 1 << 40;
 
 pub const MOST_ENTRIES: usize = 65536;
@@ -174,7 +174,7 @@ pub enum OfferAnswer {
     Nothing,
 }
 
-// The answer of a look ahead.
+// The answer of a look ahead and of a wake look.
 pub enum LookAnswer {
     Refused(u8),
     At(u64),

@@ -1,4 +1,4 @@
--- What the looks ask of is left as it is: the flags, and whether an interrupt is offered. A quiet run is silent, by the stride law.
+-- What the looks ask for is left as it is: the flags, and whether an interrupt is offered. A quiet run is silent, by the stride law.
 use Prim.Native.Nat.{ℕ, _≤_}
 use mathlib.Core.Path.{_≡_, refl, sym, subst, _∙_}
 use Rattle.machine.specs.declared.Device.{Device}
@@ -16,7 +16,7 @@ pub record Silent (before after : Device) : Type 0 where
   pub flags : flags after ≡ flags before
   pub offers : offersTo after ≡ offersTo before
 
-pub unmoved : (d : Device) → Silent d d
+unmoved : (d : Device) → Silent d d
 unmoved d = record { flags = refl; offers = refl }
 
 stride-silent : (m l : ℕ) (d : Device) → Silent d (awakeStride m l d)

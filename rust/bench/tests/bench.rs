@@ -1,7 +1,7 @@
 //! The benchmark measures what it says: the loop by hand and the plain chip do the library's work, and a missing program stops nothing.
 use bench::plain::Plain;
 use bench::tight::Idle;
-use c51::{flag, pcon, Device, PINS_HIGH};
+use c51::{flag, pcon, Device, MAX_CYCLES, PINS_HIGH};
 use station::reader::Reader;
 use station::run::{run, Plan};
 use std::process::Command;
@@ -26,8 +26,8 @@ fn looks_over_the_idle_station_find_nothing() {
     let mut device = Reader::<Device>::new().chip;
     device.jump(PINS_HIGH, 100).unwrap();
     assert_eq!((device.pcon & pcon::IDL, device.timers.tcon & flag::TF1), (pcon::IDL, flag::TF1));
-    assert_eq!(device.look_ahead(PINS_HIGH, 1_000_000), Ok(None));
-    assert_eq!(device.wake_look(PINS_HIGH, 1_000_000), Ok(None));
+    assert_eq!(device.look_ahead(PINS_HIGH, MAX_CYCLES), Ok(None));
+    assert_eq!(device.wake_look(PINS_HIGH, MAX_CYCLES), Ok(None));
 }
 
 #[test]

@@ -248,8 +248,8 @@ pub fn run_record(rng: &mut Rng) -> Result<Tally, String> {
     Ok(tally)
 }
 
-/// The name of a list's next call: now and then a reset; of the others a third are writes, and a read, a cycle, a jump or a trace comes
-/// twice as often as a look ahead, a wake look, an offer, a take or a return.
+/// The name of a list's next call: now and then a reset; of the others 6 of 19 are writes, and a read, a cycle, a jump or a trace comes
+/// twice as often as a look ahead, a wake look, an offer, a take or a return. Writes that set IDL come beside these (`next_call`).
 fn next_name(rng: &mut Rng) -> Name {
     if rng.one_in(200) {
         return Name::Reset;

@@ -1,4 +1,5 @@
--- `take` is the machine's answer: the offer, the vector and the levels in service by their contracts, refusals by the tests.
+-- `take` is the machine's answer: the offer, the vector and the levels in service by their contracts, IDL cleared by a mask, refusals by
+-- the tests.
 use mathlib.Core.Path.{sym, ap, _∙_}
 use native.Mathlib.Omega.{arith}
 use lib.Dec.{lit<}
