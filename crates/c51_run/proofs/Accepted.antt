@@ -4,11 +4,11 @@ use mathlib.Core.Path.{_≡_}
 use mathlib.Core.Bool.{true}
 use mathlib.Core.List.{List}
 use Prim.Native.Nat.{ℕ}
-use lib.Dec.{eqb, leb}
+use lib.Dec.{eqb}
 use Rattle.machine.proofs.Choices.{by-test}
 use Rattle.machine.specs.declared.Device.{Device}
 use Rattle.machine.specs.Record.{accepted, pinsOk}
-use Rattle.machine.specs.Calls.{cycleAnswer, jumpAnswer, longest, traceAnswer, traceFault}
+use Rattle.machine.specs.Calls.{cycleAnswer, cyclesFault, jumpAnswer, traceAnswer, traceFault}
 use Rattle.cycle.proofs.Keeps.{cycle-accepted}
 use Rattle.jump.proofs.Keeps.{cycles-accepted}
 use Rattle.traces.proofs.Keeps.{trace-accepted}
@@ -22,9 +22,7 @@ module _ (d : Device) (a : accepted d ≡ true) where
   pub jump-kept : (pins n : ℕ) → accepted (jumpAnswer d pins n .device) ≡ true
   unfolding jumpAnswer
   jump-kept pins n =
-      rw a
-      (by-test (pinsOk pins) (λ good. rw good (by-test (leb n longest) (λ short. rw short (cycles-accepted n pins d a)) (λ long. rw long a)))
-      (λ bad. rw bad a))
+      by-test (eqb (cyclesFault d pins n) 0) (λ good. rw good (cycles-accepted n pins d a)) (λ bad. rw bad a)
 
   pub trace-kept : (es : List ℕ) → accepted (traceAnswer d es .device) ≡ true
   unfolding traceAnswer

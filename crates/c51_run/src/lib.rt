@@ -34,18 +34,29 @@ pub fn cycle(d: Device, pins: u8) -> CycleAnswer
     passed_cycle(cycle::cycle_once(d, cycle::pins_of(d.kind, pins)))
 }
 
+// The number by which n cycles with one pin byte are refused, of a jump and of a look, or 0.
+fn cycles_fault(d: Device, pins: u8, n: u64) -> u8
+    ensures { λ r. ⌜ r ≡ Machine.cyclesFault d pins n ⌝ }
+{
+    if !record::accepts(d) {
+        return BAD_RECORD;
+    }
+    if !pins_ok(pins) {
+        return BAD_PINS;
+    }
+    if n > LONGEST {
+        return TOO_LONG;
+    }
+    PASSED
+}
+
 // A jump of n cycles with one pin byte.
 pub fn jump(d: Device, pins: u8, n: u64) -> RunAnswer
     ensures { λ r. ⌜ r ≡ Machine.jumpAnswer d pins n ⌝ }
 {
-    if !record::accepts(d) {
-        return refuse_run(BAD_RECORD, d);
-    }
-    if !pins_ok(pins) {
-        return refuse_run(BAD_PINS, d);
-    }
-    if n > LONGEST {
-        return refuse_run(TOO_LONG, d);
+    let bad = cycles_fault(d, pins, n);
+    if bad != PASSED {
+        return refuse_run(bad, d);
     }
     passed_run(jump::advance(d, cycle::pins_of(d.kind, pins), n))
 }
@@ -68,14 +79,9 @@ pub fn trace(d: Device, entries: &[u32]) -> RunAnswer
 pub fn look(d: Device, pins: u8, n: u64) -> LookAnswer
     ensures { λ r. ⌜ (r ≡ Machine.lookAnswer d pins n) × (replyOfLook r ≡ play (Call.look pins n) d .reply) ⌝ }
 {
-    if !record::accepts(d) {
-        return LookAnswer::Refused(BAD_RECORD);
-    }
-    if !pins_ok(pins) {
-        return LookAnswer::Refused(BAD_PINS);
-    }
-    if n > LONGEST {
-        return LookAnswer::Refused(TOO_LONG);
+    let bad = cycles_fault(d, pins, n);
+    if bad != PASSED {
+        return LookAnswer::Refused(bad);
     }
     looks::first_rise(d, cycle::pins_of(d.kind, pins), n)
 }
@@ -84,14 +90,9 @@ pub fn look(d: Device, pins: u8, n: u64) -> LookAnswer
 pub fn wake(d: Device, pins: u8, n: u64) -> LookAnswer
     ensures { λ r. ⌜ (r ≡ Machine.wakeAnswer d pins n) × (replyOfLook r ≡ play (Call.wake pins n) d .reply) ⌝ }
 {
-    if !record::accepts(d) {
-        return LookAnswer::Refused(BAD_RECORD);
-    }
-    if !pins_ok(pins) {
-        return LookAnswer::Refused(BAD_PINS);
-    }
-    if n > LONGEST {
-        return LookAnswer::Refused(TOO_LONG);
+    let bad = cycles_fault(d, pins, n);
+    if bad != PASSED {
+        return LookAnswer::Refused(bad);
     }
     looks::first_offer(d, cycle::pins_of(d.kind, pins), n)
 }

@@ -5,7 +5,7 @@ use mathlib.Core.Path.{_≡_, refl, sym, ap, _∙_}
 use mathlib.Core.Bool.{Bool, true, false, cond}
 use mathlib.Core.List.{List, [], _∷_}
 use native.Mathlib.Omega.{arith}
-use lib.Dec.{eqb, leb}
+use lib.Dec.{eqb}
 use Rattle.machine.specs.declared.Device.{Device}
 use Rattle.machine.specs.declared.Answer.{Answer}
 use Rattle.machine.specs.declared.RunAnswer.{RunAnswer}
@@ -20,7 +20,7 @@ use Rattle.machine.specs.Interrupts.{offered, someSource}
 use Rattle.machine.specs.Interrupts.Source.{none}
 use Rattle.machine.specs.Flags.{flags}
 use Rattle.machine.specs.Cycle.{counted, ticksIn, steps, cycleOf, cycles}
-use Rattle.machine.specs.Calls.{longest, firstCycle, rises, offersTo, wakes, judgedLook, lookAnswer, wakeAnswer, writeAnswer, cycleAnswer, jumpAnswer, traceAnswer, traceFault, traceCycles, entryPins, entryCycles, takeAnswer, returnAnswer}
+use Rattle.machine.specs.Calls.{cyclesFault, firstCycle, rises, offersTo, wakes, judgedLook, lookAnswer, wakeAnswer, writeAnswer, cycleAnswer, jumpAnswer, traceAnswer, traceFault, traceCycles, entryPins, entryCycles, takeAnswer, returnAnswer}
 use Rattle.machine.specs.Lists.{Call, play, run}
 use Rattle.machine.specs.Sleep.{NoReset, NoResets, Sleeps, idling, GoesOn}
 use Rattle.machine.proofs.Choices.{chosen, cond-ap}
@@ -52,9 +52,7 @@ module _ (d : Device) (down : poweredDown (d .pcon) ≡ true) where
       chosen (λ (x : CycleAnswer). x .device ≡ d) (accepted d) _ _
       (chosen (λ (x : CycleAnswer). x .device ≡ d) (pinsOk pins) _ _ (cycle-down pins) refl) refl
   call-stays (Call.jump pins m) n =
-      chosen (λ (x : RunAnswer). x .device ≡ d) (accepted d) _ _
-      (chosen (λ (x : RunAnswer). x .device ≡ d) (pinsOk pins) _ _
-      (chosen (λ (x : RunAnswer). x .device ≡ d) (leb m longest) _ _ (cycles-stay m pins) refl) refl) refl
+      chosen (λ (x : RunAnswer). x .device ≡ d) (eqb (cyclesFault d pins m) 0) _ _ (cycles-stay m pins) refl
   call-stays (Call.trace es) n =
       chosen (λ (x : RunAnswer). x .device ≡ d) (accepted d) _ _
       (chosen (λ (x : RunAnswer). x .device ≡ d) (eqb (traceFault es) 0) _ _ (entries-stay es) refl) refl

@@ -2,7 +2,7 @@
 use mathlib.Core.Path.{_≡_, refl}
 use mathlib.Core.List.{List}
 use Prim.Native.Nat.{ℕ}
-use lib.Dec.{eqb, leb}
+use lib.Dec.{eqb}
 use Rattle.machine.proofs.Choices.{chosen}
 use Rattle.machine.specs.declared.Device.{Device}
 use Rattle.machine.specs.declared.Answer.{Answer}
@@ -13,7 +13,7 @@ use Rattle.machine.specs.Registers.{lacks}
 use Rattle.machine.specs.Power.{poweredDown}
 use Rattle.machine.specs.Record.{accepted, pinsOk}
 use Rattle.machine.specs.Interrupts.{Source, none, source, offered, noneInService}
-use Rattle.machine.specs.Calls.{writeAnswer, cycleAnswer, jumpAnswer, traceAnswer, traceFault, takeAnswer, takeOf, returnAnswer, longest}
+use Rattle.machine.specs.Calls.{writeAnswer, cycleAnswer, jumpAnswer, traceAnswer, traceFault, takeAnswer, takeOf, returnAnswer, cyclesFault}
 
 module _ (d : Device) where
   -- refused, or all is well
@@ -47,11 +47,7 @@ module _ (d : Device) where
   pub jump-refused : (pins n : ℕ) → SameRun (jumpAnswer d pins n)
   unfolding jumpAnswer
   jump-refused pins n =
-      chosen SameRun (accepted d) _ _
-      (chosen SameRun (pinsOk pins) _ _
-      (chosen SameRun (leb n longest) _ _ (λ n. absurd (n refl)) (λ _. refl))
-      (λ _. refl))
-      (λ _. refl)
+      chosen SameRun (eqb (cyclesFault d pins n) 0) _ _ (λ n. absurd (n refl)) (λ _. refl)
 
   pub trace-refused : (es : List ℕ) → SameRun (traceAnswer d es)
   unfolding traceAnswer

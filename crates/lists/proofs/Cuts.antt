@@ -5,12 +5,12 @@ use mathlib.Core.Path.{_≡_, refl, sym, ap, _∙_}
 use mathlib.Core.Bool.{Bool, true, false, cond}
 use mathlib.Core.List.{List, [], _∷_, _++_}
 use native.Mathlib.Omega.{arith}
-use lib.Dec.{eqb, leb}
+use lib.Dec.{eqb}
 use borrow.Author.Tests.{eqb-false}
 use Rattle.machine.specs.declared.Device.{Device}
 use Rattle.machine.specs.Record.{accepted, pinsOk}
 use Rattle.machine.specs.Cycle.{cycleOf, cycles}
-use Rattle.machine.specs.Calls.{refuseRun, passedRun, refuseCycle, passedCycle, cycleAnswer, jumpAnswer, longest, entryPins, entryCycles, traceFault, traceCycles, traceAnswer}
+use Rattle.machine.specs.Calls.{refuseRun, passedRun, refuseCycle, passedCycle, cycleAnswer, cyclesFault, jumpAnswer, entryPins, entryCycles, traceFault, traceCycles, traceAnswer}
 use Rattle.machine.specs.Lists.{Call, Reply, play}
 use Rattle.lists.specs.Spelling.{Each}
 use Rattle.lists.specs.Demand3.{Chained}
@@ -44,19 +44,15 @@ cycle-passed true true d e h = refl
 cycle-passed true false d e h = absurd (omega arith)
 cycle-passed false b d e h = absurd (omega arith)
 
-jump-passed : (a b c : Bool) (d e : Device)
-    → cond a (cond b (cond c (passedRun e) (refuseRun 5 d)) (refuseRun 4 d)) (refuseRun 1 d) .code ≡ 0
-    → cond a (cond b (cond c (passedRun e) (refuseRun 5 d)) (refuseRun 4 d)) (refuseRun 1 d) .device ≡ e
-jump-passed true true true d e h = refl
-jump-passed true true false d e h = absurd (omega arith)
-jump-passed true false c d e h = absurd (omega arith)
-jump-passed false b c d e h = absurd (omega arith)
+run-passed : (b : Bool) (fault : ℕ) (d e : Device) → eqb fault 0 ≡ b → cond b (passedRun e) (refuseRun fault d) .code ≡ 0
+    → cond b (passedRun e) (refuseRun fault d) .device ≡ e
+run-passed true fault d e q h = refl
+run-passed false fault d e q h = absurd (eqb-false fault 0 q h)
 
 trace-passed : (a b : Bool) (fault : ℕ) (d e : Device) → eqb fault 0 ≡ b
     → cond a (cond b (passedRun e) (refuseRun fault d)) (refuseRun 1 d) .code ≡ 0
     → cond a (cond b (passedRun e) (refuseRun fault d)) (refuseRun 1 d) .device ≡ e
-trace-passed true true fault d e q h = refl
-trace-passed true false fault d e q h = absurd (eqb-false fault 0 q h)
+trace-passed true b fault d e q h = run-passed b fault d e q h
 trace-passed false b fault d e q h = absurd (omega arith)
 
 -- a call that passes leaves the device after its cycles
@@ -65,7 +61,7 @@ unfolding play over pinsOfCall cycleAnswer jumpAnswer traceAnswer
 call-over (Crosses.cycle {pins = pins}) d h =
     cycle-passed (accepted d) (pinsOk pins) d (cycleOf pins d) h
 call-over (Crosses.jump {pins = pins} {n = n}) d h =
-    jump-passed (accepted d) (pinsOk pins) (leb n longest) d (cycles n pins d) h ∙ sym (over-held n pins d)
+    run-passed (eqb (cyclesFault d pins n) 0) (cyclesFault d pins n) d (cycles n pins d) refl h ∙ sym (over-held n pins d)
 call-over (Crosses.trace {es = es}) d h =
     trace-passed (accepted d) (eqb (traceFault es) 0) (traceFault es) d (traceCycles es d) refl h
     ∙ sym (over-entries es d)

@@ -5,14 +5,13 @@ use mathlib.Core.Path.{_≡_, refl, sym, ap, _∙_, subst}
 use mathlib.Core.Bool.{Bool, true, false, cond}
 use native.Mathlib.Nat.{le-antisymm}
 use native.Mathlib.Omega.{arith}
-use lib.Dec.{eqb, ltb, leb}
+use lib.Dec.{eqb, ltb}
 use borrow.Author.Tests.{ltb-true, ltb-false, eqb-true, eqb-false}
 use Rattle.machine.specs.declared.Device.{Device}
 use Rattle.machine.specs.declared.LookAnswer.{LookAnswer}
 use Rattle.machine.specs.declared.LookAnswer.the-variants as Look
-use Rattle.machine.specs.Record.{accepted, pinsOk}
 use Rattle.machine.specs.Cycle.{cycleOf, cycles}
-use Rattle.machine.specs.Calls.{firstCycle, rises, firstRise, offersTo, wakes, firstOffer, lookAnswer, wakeAnswer, longest}
+use Rattle.machine.specs.Calls.{firstCycle, rises, firstRise, offersTo, wakes, firstOffer, cyclesFault, judgedLook, lookAnswer, wakeAnswer}
 use Rattle.machine.specs.Lists.{Reply, number, replyOfLook}
 use Rattle.machine.specs.Lists.Value.{none}
 use Rattle.machine.proofs.Choices.{clash, by-test}
@@ -138,31 +137,24 @@ module _ {start n : ℕ} {so : ℕ → Bool} where
 
 -- A look that passes answers what it found
 
--- a look's refusals in their order
-abbrev judged : Bool → Bool → Bool → LookAnswer → LookAnswer
-judged b₁ b₂ b₃ a = cond b₁ (cond b₂ (cond b₃ a (Look.Refused 5)) (Look.Refused 4)) (Look.Refused 1)
-
-passes : (b₁ b₂ b₃ : Bool) (a : LookAnswer) → replyOfLook (judged b₁ b₂ b₃ a) .code ≡ 0 → judged b₁ b₂ b₃ a ≡ a
-passes true true true a e = refl
-passes true true false a e = absurd (omega arith)
-passes true false b₃ a e = absurd (omega arith)
-passes false b₂ b₃ a e = absurd (omega arith)
+passes : (b : Bool) (fault : ℕ) (a : LookAnswer) → eqb fault 0 ≡ b → replyOfLook (cond b a (Look.Refused fault)) .code ≡ 0
+    → cond b a (Look.Refused fault) ≡ a
+passes true fault a q e = refl
+passes false fault a q e = absurd (eqb-false fault 0 q e)
 
 module _ (pins n : ℕ) (d : Device) where
   -- for what either look found
   module _ {start : ℕ} {so : ℕ → Bool} (found : LookAnswer) (why : Found start n so found) where
-    abbrev answered : LookAnswer
-    answered = judged (accepted d) (pinsOk pins) (leb n longest) found
-
-    passed-is : (a : LookAnswer) → a ≡ answered → replyOfLook a .code ≡ 0 → a ≡ found
+    passed-is : (a : LookAnswer) → a ≡ judgedLook d pins n found → replyOfLook a .code ≡ 0 → a ≡ found
     passed-is a e p =
-        e ∙ passes (accepted d) (pinsOk pins) (leb n longest) found (ap (λ (x : LookAnswer). replyOfLook x .code) (sym e) ∙ p)
+        let fault = cyclesFault d pins n in
+        e ∙ passes (eqb fault 0) fault found refl (ap (λ (x : LookAnswer). replyOfLook x .code) (sym e) ∙ p)
 
-    means : (a : LookAnswer) → a ≡ answered → replyOfLook a .code ≡ 0 → Looks start n so a
+    means : (a : LookAnswer) → a ≡ judgedLook d pins n found → replyOfLook a .code ≡ 0 → Looks start n so a
     means a e p = rw (passed-is a e p) (found-means why)
 
-    tells : (r : Reply) → r ≡ replyOfLook answered → r .code ≡ 0 → Tells start n so (r .value)
-    tells r e p = rw (e, passed-is answered refl (ap (λ (x : Reply). x .code) (sym e) ∙ p)) (found-tells why)
+    tells : (r : Reply) → r ≡ replyOfLook (judgedLook d pins n found) → r .code ≡ 0 → Tells start n so (r .value)
+    tells r e p = rw (e, passed-is (judgedLook d pins n found) refl (ap (λ (x : Reply). x .code) (sym e) ∙ p)) (found-tells why)
 
   pub look-means : (a : LookAnswer) → a ≡ lookAnswer d pins n → replyOfLook a .code ≡ 0 → Looks 1 n (risesIn pins d) a
   unfolding lookAnswer

@@ -143,12 +143,18 @@ longest = 2 ^ 40
 abbrev pub mostEntries : ℕ
 mostEntries = 65536
 
+-- the number by which n cycles with one pin byte are refused, of a jump and of a look, or 0
+unfoldable pub cyclesFault : Device → ℕ → ℕ → ℕ
+cyclesFault d pins n =
+    unless (accepted d) 1
+    (unless (pinsOk pins) 4
+    (unless (leb n longest) 5
+    0))
+
 unfoldable pub jumpAnswer : Device → ℕ → ℕ → RunAnswer
 jumpAnswer d pins n =
-    unless (accepted d) (refuseRun 1 d)
-    (unless (pinsOk pins) (refuseRun 4 d)
-    (unless (leb n longest) (refuseRun 5 d)
-    (passedRun (cycles n pins d))))
+    unless (eqb (cyclesFault d pins n) 0) (refuseRun (cyclesFault d pins n) d)
+    (passedRun (cycles n pins d))
 
 -- Trace run: an entry has the pin byte on top and the cycles in its low 24 bits
 abbrev pub entryPins : ℕ → ℕ
@@ -200,13 +206,11 @@ rises before after = anyRises (flags before) (flags after)
 abbrev pub firstRise : ℕ → ℕ → Device → LookAnswer
 firstRise n pins d = firstCycle rises 0 n pins d
 
--- a look is refused by 1, 4 and 5, and one that passes answers what it found
+-- a look is refused as a jump is, and one that passes answers what it found
 abbrev pub judgedLook : Device → ℕ → ℕ → LookAnswer → LookAnswer
 judgedLook d pins n found =
-    unless (accepted d) (Look.Refused 1)
-    (unless (pinsOk pins) (Look.Refused 4)
-    (unless (leb n longest) (Look.Refused 5)
-    found))
+    unless (eqb (cyclesFault d pins n) 0) (Look.Refused (cyclesFault d pins n))
+    found
 
 -- a look ahead makes the jump of its n cycles on a copy of the state, and answers the first rise or none
 unfoldable pub lookAnswer : Device → ℕ → ℕ → LookAnswer

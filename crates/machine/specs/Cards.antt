@@ -15,7 +15,7 @@ use Rattle.machine.specs.Serial.{halfAfter, ticks1, ticksOf, serialTicks
 use Rattle.machine.specs.Interrupts.{external, either, seenOf, firstOf, choice, offered, inService, taken, returned}
 use Rattle.machine.specs.Flags.{flags, anyRises}
 use Rattle.machine.specs.Cycle.{falls, counted, externals, timersAfter, timer2After, ticksIn, steps as stepsOf, cycleOf, cycles}
-use Rattle.machine.specs.Calls.{resetAnswer, valueIn, registerAt, readAnswer, stored, writeAnswer, cycleAnswer, jumpAnswer, entryFault, firstBad, traceFault, traceCycles, traceAnswer, firstCycle, lookAnswer, wakeAnswer, offerOf, offerAnswer, takeOf, takeAnswer, returnAnswer}
+use Rattle.machine.specs.Calls.{resetAnswer, valueIn, registerAt, readAnswer, stored, writeAnswer, cycleAnswer, cyclesFault, jumpAnswer, entryFault, firstBad, traceFault, traceCycles, traceAnswer, firstCycle, lookAnswer, wakeAnswer, offerOf, offerAnswer, takeOf, takeAnswer, returnAnswer}
 use Rattle.machine.specs.Lists.{Call, Value, Reply, Ran, nothing, number, says, play, run, machine}
 use Rattle.machine.specs.Lists.Call.{reset, read, write, cycle, jump, trace, look, offer, take, return, wake}
 use Rattle.machine.specs.Lists.Value.{numbers, none}
@@ -461,5 +461,5 @@ failing (r ∷ rs) = cond (r .test (machine (r .kind) (r .calls))) (failing rs) 
 
 -- no row fails
 cards-hold : failing cards ≡ []
-unfolding sameNumbers sameValue sameReply sameReplies rowWith card1 card2 card3 card4 baud2 card5 card5counted mode1send card6 card6half card7 card8 card8shift card9 card10 card11 card12 card12line card13 card14 card15 card16 both joined cards failing table implementedIn implemented registers hiddenFields accepted pinsOf levelsOf zeros resetOf count13 count16 reload8 count8 hold enabled clocked countIn flagged counts0 counts1 countsHigh0 pair0 high0 highOverflow0 pair1 timerFlags timersStep countOnce countTimes baudRate countsOf2 heedsT2EX captures counted2 baudStep copied2 captureStep timer2Step halfAfter ticks1 ticksOf serialTicks sendMove sendTick sendTicks send lineOf startFound receiveStart receiveRolled receiveCounted votesAdded bitOf frameDone receiveBit receiveWork receiveTick receiveTicks receiveShift receive serialStep writeSbuf receiveAsked writeScon external either seenOf firstOf choice offered inService taken returned falls counted externals timersAfter timer2After ticksIn stepsOf cycleOf cycles resetAnswer valueIn registerAt readAnswer stored writeAnswer cycleAnswer jumpAnswer entryFault firstBad traceFault traceCycles traceAnswer flags anyRises firstCycle lookAnswer wakeAnswer offerOf offerAnswer takeOf takeAnswer returnAnswer play run machine
+unfolding sameNumbers sameValue sameReply sameReplies rowWith card1 card2 card3 card4 baud2 card5 card5counted mode1send card6 card6half card7 card8 card8shift card9 card10 card11 card12 card12line card13 card14 card15 card16 both joined cards failing table implementedIn implemented registers hiddenFields accepted pinsOf levelsOf zeros resetOf count13 count16 reload8 count8 hold enabled clocked countIn flagged counts0 counts1 countsHigh0 pair0 high0 highOverflow0 pair1 timerFlags timersStep countOnce countTimes baudRate countsOf2 heedsT2EX captures counted2 baudStep copied2 captureStep timer2Step halfAfter ticks1 ticksOf serialTicks sendMove sendTick sendTicks send lineOf startFound receiveStart receiveRolled receiveCounted votesAdded bitOf frameDone receiveBit receiveWork receiveTick receiveTicks receiveShift receive serialStep writeSbuf receiveAsked writeScon external either seenOf firstOf choice offered inService taken returned falls counted externals timersAfter timer2After ticksIn stepsOf cycleOf cycles resetAnswer valueIn registerAt readAnswer stored writeAnswer cycleAnswer cyclesFault jumpAnswer entryFault firstBad traceFault traceCycles traceAnswer flags anyRises firstCycle lookAnswer wakeAnswer offerOf offerAnswer takeOf takeAnswer returnAnswer play run machine
 cards-hold = refl

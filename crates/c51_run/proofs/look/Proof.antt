@@ -1,48 +1,37 @@
--- A look ahead answers what the plain machine answers: the refusals in the table's order, then the first rise.
-use borrow.Author.Tests.{le-leb, lt-leb}
+-- A look ahead answers what the plain machine answers: the number that refuses it, or the first rise.
+use mathlib.Core.Path.{sym, _∙_}
+use borrow.Author.Tests.{eq-eqb, ne-eqb}
 use Rattle.machine.specs.Calls.{lookAnswer}
 use Rattle.machine.specs.Lists.{play, replyOfLook}
 use Rattle.jump.proofs.Taken.{ready-taken}
 use Rattle.looks.proofs.Taken.{rise-taken}
 use borrow.Author.Needs.{needs}
-use Rattle.laws.proofs.Guards.{yes, no, told}
+use Rattle.laws.proofs.Guards.{told}
+use Rattle.c51_run.proofs.Faults.{made}
 use Rattle.c51_run.proofs.look.Statement.{statement}
 use Rattle.c51_run.proofs.look.Tie as tie
 
 returns : tie.Need-returns
 unfolding lookAnswer play
-returns c = told replyOfLook (rw (no (c .before .accepts .ensures) (c .if1 .taken)))
+returns c =
+    let e = c .before .cycles-fault .ensures in
+    told replyOfLook (rw (ne-eqb _ _ (λ z. c .if1 .taken (e ∙ z)), ← e))
+
+first-rise-requires : tie.Need-first-rise-requires
+first-rise-requires c κs =
+    let f = c .before .before in
+    let x = f .before .args in
+    let m = made (x .d) (x .pins) (x .n) (f .cycles-fault .ensures) (c .before .if1 .left) in
+    (ready-taken (x .pins) (x .d) (c .pins-of .ensures) (m .good), m .within)
 
 returns-2 : tie.Need-returns-2
 unfolding lookAnswer play
 returns-2 c =
-    let p = c .before in
-    told replyOfLook (rw (yes (p .before .before .accepts .ensures) (p .before .if1 .left), no (p .pins-ok .ensures) (c .if2 .taken)))
-
-returns-3 : tie.Need-returns-3
-unfolding lookAnswer play
-returns-3 c =
-    let p = c .before .before in
-    told replyOfLook (rw (yes (p .before .before .accepts .ensures) (p .before .if1 .left), yes (p .pins-ok .ensures) (c .before .if2 .left), lt-leb _ _ (c .if3 .taken)))
-
-first-rise-requires : tie.Need-first-rise-requires
-first-rise-requires c κs =
-    let n = c .before in
-    let p = n .before .before in
-    let x = p .before .before .before .args in
-    (ready-taken (x .pins) (x .d) (c .pins-of .ensures) (yes (p .before .before .accepts .ensures) (p .before .if1 .left)), n .if3 .left)
-
-returns-4 : tie.Need-returns-4
-unfolding lookAnswer play
-returns-4 c =
     let l = c .before in
-    let n = l .before in
-    let p = n .before .before in
-    let x = p .before .before .before .args in
-    let ok = yes (p .before .before .accepts .ensures) (p .before .if1 .left) in
+    let f = l .before .before in
+    let x = f .before .args in
     let first = rise-taken (x .pins) (x .d) (l .pins-of .ensures) (x .n) (c .first-rise .ensures) in
-    told replyOfLook (rw (ok, yes (p .pins-ok .ensures) (n .before .if2 .left), le-leb _ _ (n .if3 .left)) first)
+    told replyOfLook (rw (eq-eqb _ _ (sym (f .cycles-fault .ensures) ∙ l .before .if1 .left)) first)
 
 pub look-spec : {M : Type 1} → statement M
-look-spec =
-    tie.close (tie.spec (search needs) returns (search needs) returns-2 returns-3 (search needs) first-rise-requires returns-4)
+look-spec = tie.close (tie.spec (search needs) returns (search needs) first-rise-requires returns-2)
