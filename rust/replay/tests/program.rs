@@ -136,11 +136,17 @@ fn answers_that_cannot_be_written() {
     assert!(said(&ran).starts_with("replay: the answers cannot be written: "), "{}", said(&ran));
 }
 
+/// A child of another test has the closed end too until it runs its program, so that first answers may still be written: calls go on
+/// until one is not, which ends the program and with it their own pipe.
 #[test]
 fn a_pipe_that_is_closed() {
+    const MOST: usize = 1 << 20;
     let mut child = replay().spawn().expect("the program runs");
     drop(child.stdout.take());
-    child.stdin.take().expect("a pipe").write_all(b"R 52\n").expect("the script is read");
+    let mut input = child.stdin.take().expect("a pipe");
+    let read = (0..MOST).take_while(|_| input.write_all(b"R 52\n").is_ok()).count();
+    assert!(read < MOST, "all {MOST} calls are read");
+    drop(input);
     let ran = child.wait_with_output().expect("the program ends");
     assert_eq!(ran.status.code(), Some(2));
     assert!(said(&ran).starts_with("replay: the answers cannot be written: "), "{}", said(&ran));
