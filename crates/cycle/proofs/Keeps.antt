@@ -12,12 +12,13 @@ use Rattle.machine.specs.declared.Counted.{Counted}
 use Rattle.machine.specs.declared.Ticks.{Ticks}
 use Rattle.machine.specs.declared.Device.{Device}
 use Rattle.machine.specs.Bits.{bit, setBit}
-use Rattle.machine.specs.Registers.{RXD, T2, T2EX, IT0, IT1, IE0, IE1}
+use Rattle.machine.specs.Registers.{RXD, T2, T2EX, IT0, IT1, IE0, IE1, ET2}
 use Rattle.machine.specs.Power.{poweredDown}
 use Rattle.machine.specs.Record.{accepted, pinsOf, levelsOf, levelsOk}
+use Rattle.machine.specs.Timers.{flagged}
 use Rattle.machine.specs.Cycle.{falls, externals, counted, timersAfter, timer2After, ticksIn, steps, cycleOf}
 use Rattle.laws.specs.Ranges.{TimersOk, Timer2Ok, Absent, TicksOk, Ranges}
-use Rattle.laws.proofs.Bits.{bit-below, bit-set, bit-set-other}
+use Rattle.laws.proofs.Bits.{bit-below, bit-set, bit-set-other, flagged-lt}
 use Rattle.machine.proofs.Choices.{chosen}
 use Rattle.machine.proofs.Rollovers.{few-ticks}
 use Rattle.timers.proofs.Ranges as timers
@@ -86,6 +87,11 @@ module _ (d : Device) (r : Ranges d) where
       let high : falls (d .levels) (pinsOf (d .kind) pins) T2 ≡ 0 = rw e (falls-not (d .levels) (pinsOf 51 pins) T2 (takes-t2 pins)) in
       rw (timer2.step-still (d .timer2) _ (a .t2con), high ∙ sym (a .due2)) a
 
+  -- step 1
+  polled-keeps : (l : ℕ) → flagged ET2 (counted d l .timer2 .tf2) (d .interrupts .seen) ≤ 63
+  polled-keeps l =
+      le-pred-of-lt (flagged-lt 6 ET2 (counted d l .timer2 .tf2) (d .interrupts .seen) (lit< tt) (omega (arith, r .interrupts .seen)))
+
   levels-keep : (l : ℕ) → levelsOk (levelsOf l) ≡ true
   unfolding levelsOf
   levels-keep l =
@@ -113,7 +119,7 @@ module _ (d : Device) (r : Ranges d) where
               ip = r .interrupts .ip;
               ipBits = r .interrupts .ipBits;
               seen = seen-most _ _ _;
-              polled = r .interrupts .seen;
+              polled = polled-keeps l;
               low = r .interrupts .low;
               high = r .interrupts .high;
             };

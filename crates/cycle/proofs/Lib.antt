@@ -1,3 +1,4 @@
 pub mod Levels
 pub mod Keeps
+pub mod Heard
 pub mod Steps

@@ -10,20 +10,22 @@ use Rattle.machine.specs.declared.Counted.{Counted}
 use Rattle.machine.specs.declared.Ticks.{Ticks}
 use Rattle.machine.specs.declared.Device.{Device}
 use Rattle.machine.specs.Bits.{bit}
-use Rattle.machine.specs.Registers.{RXD}
+use Rattle.machine.specs.Registers.{RXD, ET2}
 use Rattle.machine.specs.Power.{poweredDown}
 use Rattle.machine.specs.Record.{pinsOf, levelsOf}
+use Rattle.machine.specs.Timers.{flagged}
 use Rattle.machine.specs.Serial.{serialStep}
 use Rattle.machine.specs.Interrupts.{seenOf}
-use Rattle.machine.specs.Cycle.{counted, ticksIn, timersAfter, timer2After, steps, polling, cycleOf}
+use Rattle.machine.specs.Cycle.{counted, ticksIn, timersAfter, timer2After, steps, cycleOf}
 
-module _ (d : Device) (l : ℕ) {rxd seen number : ℕ} {c : Counted} {k : Ticks} {s : Serial} {t : Timers} {u : Timer2} {now : List ℕ} where
+module _ (d : Device) (l : ℕ) {rxd polled seen number : ℕ} {c : Counted} {k : Ticks} {s : Serial} {t : Timers} {u : Timer2} {now : List ℕ} where
   pub steps-are : c ≡ counted d l
       → k ≡ ticksIn d c
       → rxd ≡ bit RXD l
       → s ≡ serialStep k rxd (d .serial)
       → t ≡ timersAfter (d .levels) l (c .timers .timers)
       → u ≡ timer2After (d .levels) l (c .timer2 .timer2)
+      → polled ≡ flagged ET2 (c .timer2 .tf2) (d .interrupts .seen)
       → seen ≡ seenOf (t .tcon) (s .scon) (u .t2con)
       → now ≡ levelsOf l
       → number ≡ (d .cycle + 1) % 2 ^ 64
@@ -34,13 +36,21 @@ module _ (d : Device) (l : ℕ) {rxd seen number : ℕ} {c : Counted} {k : Ticks
         timers = t;
         timer2 = u;
         serial = s;
-        interrupts = polling seen (d .interrupts);
+        interrupts =
+            record {
+              ie = d .interrupts .ie;
+              ip = d .interrupts .ip;
+              seen = seen;
+              polled = polled;
+              low = d .interrupts .low;
+              high = d .interrupts .high;
+            };
         levels = now;
         cycle = number;
       })
       (steps d l)
   unfolding steps
-  steps-are ec ek er es et eu en eo em = rw (en, et, eu, es, eo, em, er, ek, ec)
+  steps-are ec ek er es et eu ep en eo em = rw (ep, en, et, eu, es, eo, em, er, ek, ec)
 
 module _ (pins : ℕ) (d : Device) where
   -- out of power-down

@@ -1,7 +1,7 @@
 -- Laws of single bits and fields, for any place: the code's masks and shifts are the definitions' bits, and what
 -- setting, clearing and putting a bit leaves; by the kit's laws of masks, and by taking a number apart at the bit.
 use mathlib.Core.Path.{_≡_, refl, sym, ap, ap₂, _∙_, subst}
-use mathlib.Core.Bool.{Bool, true, false}
+use mathlib.Core.Bool.{Bool, true, false, cond}
 use mathlib.Core.Logic.{_≢_}
 use Prim.Native.Nat.{ℕ, zero, suc, _+_, _-_, _*_, _/_, _%_, _^_, _<_, _≤_, min}
 use native.Mathlib.Nat.{pow-suc, mod-lt, zero-lt-suc, mod-eq-of-lt, one-mul, div-one, div-add-mod', div-lt-iff-lt-mul, mod-mod, suc-mul, zero-mul}
@@ -15,7 +15,7 @@ use lib.Arith.{bin-ind, digits-mod}
 use lib.Bits.{bitAnd, bitOr, and-mask, and-comm, and-high, and-step, and-shr, and-block, and-self, and-zero-r, or-add-and, or-shifted, or-zero-r}
 use Rattle.machine.specs.Bits.{bit, setBit, clearBit, putBit, field}
 use Rattle.machine.specs.Timers.{flagged}
-use Rattle.machine.proofs.Choices.{chosen}
+use Rattle.machine.proofs.Choices.{chosen, cond-ap}
 
 -- a bit is 0 or 1
 pub bit-below : (k x : ℕ) → bit k x < 2
@@ -192,7 +192,19 @@ field-set-above j w k x h = ap (field j w) (set-put k x) ∙ field-put-above j w
 pub set-lt : (w k x : ℕ) → k < w → x < 2 ^ w → setBit k x < 2 ^ w
 set-lt w k x h l = subst (λ (n : ℕ). n < 2 ^ w) (sym (set-put k x)) (put-lt w k 1 x h (omega arith) l)
 
--- a flag that an overflow sets keeps the width
+-- a flag that an overflow sets: the bit, the other bits, no overflow, and the width
+pub bit-flagged : (k o x : ℕ) → bit k (flagged k o x) ≡ cond (eqb o 1) 1 (bit k x)
+unfolding flagged
+bit-flagged k o x = cond-ap (bit k) (eqb o 1) (setBit k x) x ∙ ap (λ (n : ℕ). cond (eqb o 1) n (bit k x)) (bit-set k x)
+
+pub bit-flagged-other : (j k o x : ℕ) → j ≢ k → bit j (flagged k o x) ≡ bit j x
+unfolding flagged
+bit-flagged-other j k o x d = chosen (λ (n : ℕ). bit j n ≡ bit j x) (eqb o 1) (setBit k x) x (bit-set-other j k x d) refl
+
+pub flagged-none : (k x : ℕ) → flagged k 0 x ≡ x
+unfolding flagged
+flagged-none k x = refl
+
 pub flagged-lt : (w k o x : ℕ) → k < w → x < 2 ^ w → flagged k o x < 2 ^ w
 unfolding flagged
 flagged-lt w k o x h l = chosen (λ (n : ℕ). n < 2 ^ w) (eqb o 1) _ _ (set-lt w k x h l) l

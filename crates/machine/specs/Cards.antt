@@ -21,7 +21,7 @@ use Rattle.machine.specs.Lists.Call.{reset, read, write, cycle, jump, tr
 use Rattle.machine.specs.Lists.Value.{numbers, none}
 
 -- a row: the card's number, the kind, the calls, and what has to hold of the run. Cards 1 to 10 are numbered by their place in document
--- 01, 11 to 16 are those of request One
+-- 01, 11 to 16 are those of request One, 17 to 21 of request Two
 pub record Row : Type 0 where
   pub card : ℕ
   pub kind : ℕ
@@ -64,7 +64,7 @@ passes = says 0 nothing
 abbrev gives : ℕ → Reply
 gives n = says 0 (number n)
 
--- every pin high; T0 low; RXD low; INT0 low
+-- every pin high; one pin low
 abbrev high : ℕ
 high = 0x7f
 
@@ -76,6 +76,12 @@ lowRXD = 0x7e
 
 abbrev lowINT0 : ℕ
 lowINT0 = 0x7d
+
+abbrev lowT2 : ℕ
+lowT2 = 0x5f
+
+abbrev lowT2EX : ℕ
+lowT2EX = 0x3f
 
 -- write v at a
 abbrev set : ℕ → ℕ → Asked
@@ -412,6 +418,89 @@ card16 kind =
     ∷ []
     )
 
+-- Request Two. Timer 2's RCAP2 and count, the low bytes as given and the high bytes FF, its interrupt enabled
+timer2At : ℕ → ℕ → List Asked
+timer2At reload count =
+    set RCAP2L reload ∷ set RCAP2H 0xff ∷ set TL2 count ∷ set TH2 0xff ∷ set IE 0xa0 ∷ []
+
+-- at FFFE, with auto-reload or with capture, IE A0: TF2 rises in cycle 2; 002B is offered after 2, not after 3
+card17 : ℕ → ℕ → Row
+card17 t2con after =
+    rowOf 17 52 (timer2At 0x00 0xfe ++ (
+    set T2CON t2con
+    ∷ asked (look high 9) (gives 2)
+    ∷ wakesNone 1
+    ∷ wakes 9 2
+    ∷ step high
+    ∷ holds T2CON t2con
+    ∷ offersNone
+    ∷ step high
+    ∷ holds T2CON after
+    ∷ offers 0x2b
+    ∷ []
+    ))
+
+-- and by one call over the cycles
+card17by : Asked → Row
+card17by run = rowOf 17 52 (timer2At 0x00 0xfe ++ (set T2CON 0x04 ∷ run ∷ holds T2CON 0x84 ∷ offers 0x2b ∷ []))
+
+-- as a counter at FFFF: T2 falls in cycle 1 and is counted in cycle 2
+card17counter : Row
+card17counter =
+    rowOf 17 52 (timer2At 0x00 0xff ++ (
+    set T2CON 0x06
+    ∷ step lowT2
+    ∷ holds T2CON 0x06
+    ∷ offersNone
+    ∷ step lowT2
+    ∷ holds T2CON 0x86
+    ∷ offers 0x2b
+    ∷ []
+    ))
+
+-- EXF2 waits, with auto-reload and with capture: T2EX falls in cycle 1; none is offered after 1, 002B after 2
+card18 : ℕ → ℕ → Row
+card18 t2con after =
+    rowOf 18 52 (timer2At 0x00 0xf0 ++ (
+    set T2CON t2con
+    ∷ asked (look lowT2EX 9) (gives 1)
+    ∷ asked (wake lowT2EX 9) (gives 2)
+    ∷ step lowT2EX
+    ∷ holds T2CON after
+    ∷ offersNone
+    ∷ step lowT2EX
+    ∷ offers 0x2b
+    ∷ []
+    ))
+
+-- where T2EX falls in the cycle of an overflow, the overflow is heard
+card18both : Row
+card18both = rowOf 18 52 (timer2At 0x00 0xff ++ (set T2CON 0x0c ∷ step lowT2EX ∷ holds T2CON 0xcc ∷ offers 0x2b ∷ []))
+
+-- at FFFF: 002B is offered after 1; the take leaves TF2, and after the return none is offered
+card19 : ℕ → List Asked → Row
+card19 reload steps =
+    rowOf 19 52 (timer2At reload 0xff ++ (
+    set T2CON 0x04
+    ∷ step high
+    ∷ offers 0x2b
+    ∷ asked take (gives 0x2b)
+    ∷ asked return passes
+    ∷ holds T2CON 0x84
+    ∷ offersNone
+    ∷ steps
+    ))
+
+-- as a baud rate generator, which overflows in every cycle, it sets no TF2, and nothing is offered
+card20 : ℕ → Row
+card20 t2con =
+    rowOf 20 52 (timer2At 0xff 0xff ++ (set T2CON t2con ∷ wakesNone 9 ∷ go 9 ∷ holds T2CON t2con ∷ offersNone ∷ []))
+
+-- TF2 or EXF2 written by software waits, Timer 2 stopped, counting or a baud rate generator: 002B is offered after 2
+card21 : ℕ → ℕ → Row
+card21 t2con count =
+    rowOf 21 52 (timer2At count count ++ (set T2CON t2con ∷ wakes 9 2 ∷ step high ∷ offersNone ∷ step high ∷ offers 0x2b ∷ []))
+
 -- on both kinds
 both : (ℕ → Row) → List Row
 both card = card 51 ∷ card 52 ∷ []
@@ -451,6 +540,25 @@ cards =
     ∷ both card14
     ∷ both card15
     ∷ both card16
+    ∷ (card17 0x04 0x84
+    ∷ card17 0x05 0x85
+    ∷ card17by (go 2)
+    ∷ card17by (asked (trace (0x7f000002 ∷ [])) passes)
+    ∷ card17counter
+    ∷ card18 0x0c 0x4c
+    ∷ card18 0x0d 0x4d
+    ∷ card18both
+    -- each cycle overflows: one that finds TF2 still 1 offers again after its own cycle
+    ∷ card19 0xff (wakes 9 1 ∷ step high ∷ holds T2CON 0x84 ∷ offers 0x2b ∷ [])
+    -- none does: TF2 is heard again after two cycles
+    ∷ card19 0x00 (wakes 9 2 ∷ step high ∷ offersNone ∷ step high ∷ offers 0x2b ∷ [])
+    ∷ card20 0x14
+    ∷ card20 0x24
+    ∷ card21 0x80 0xff
+    ∷ card21 0x84 0xf0
+    ∷ card21 0x40 0xff
+    ∷ card21 0xa4 0xff
+    ∷ [])
     ∷ []
     )
 
@@ -461,5 +569,5 @@ failing (r ∷ rs) = cond (r .test (machine (r .kind) (r .calls))) (failing rs) 
 
 -- no row fails
 cards-hold : failing cards ≡ []
-unfolding sameNumbers sameValue sameReply sameReplies rowWith card1 card2 card3 card4 baud2 card5 card5counted mode1send card6 card6half card7 card8 card8shift card9 card10 card11 card12 card12line card13 card14 card15 card16 both joined cards failing table implementedIn implemented registers hiddenFields accepted pinsOf levelsOf zeros resetOf count13 count16 reload8 count8 hold enabled clocked countIn flagged counts0 counts1 countsHigh0 pair0 high0 highOverflow0 pair1 timerFlags timersStep countOnce countTimes baudRate countsOf2 heedsT2EX captures counted2 baudStep copied2 captureStep timer2Step halfAfter ticks1 ticksOf serialTicks sendMove sendTick sendTicks send lineOf startFound receiveStart receiveRolled receiveCounted votesAdded bitOf frameDone receiveBit receiveWork receiveTick receiveTicks receiveShift receive serialStep writeSbuf receiveAsked writeScon external either seenOf firstOf choice offered inService taken returned falls counted externals timersAfter timer2After ticksIn stepsOf cycleOf cycles resetAnswer valueIn registerAt readAnswer stored writeAnswer cycleAnswer cyclesFault jumpAnswer entryFault firstBad traceFault traceCycles traceAnswer flags anyRises firstCycle lookAnswer wakeAnswer offerOf offerAnswer takeOf takeAnswer returnAnswer play run machine
+unfolding sameNumbers sameValue sameReply sameReplies rowWith card1 card2 card3 card4 baud2 card5 card5counted mode1send card6 card6half card7 card8 card8shift card9 card10 card11 card12 card12line card13 card14 card15 card16 timer2At card17 card17by card17counter card18 card18both card19 card20 card21 both joined cards failing table implementedIn implemented registers hiddenFields accepted pinsOf levelsOf zeros resetOf count13 count16 reload8 count8 hold enabled clocked countIn flagged counts0 counts1 countsHigh0 pair0 high0 highOverflow0 pair1 timerFlags timersStep countOnce countTimes baudRate countsOf2 heedsT2EX captures counted2 baudStep copied2 captureStep timer2Step halfAfter ticks1 ticksOf serialTicks sendMove sendTick sendTicks send lineOf startFound receiveStart receiveRolled receiveCounted votesAdded bitOf frameDone receiveBit receiveWork receiveTick receiveTicks receiveShift receive serialStep writeSbuf receiveAsked writeScon external either seenOf firstOf choice offered inService taken returned falls counted externals timersAfter timer2After ticksIn stepsOf cycleOf cycles resetAnswer valueIn registerAt readAnswer stored writeAnswer cycleAnswer cyclesFault jumpAnswer entryFault firstBad traceFault traceCycles traceAnswer flags anyRises firstCycle lookAnswer wakeAnswer offerOf offerAnswer takeOf takeAnswer returnAnswer play run machine
 cards-hold = refl

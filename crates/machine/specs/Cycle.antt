@@ -1,5 +1,5 @@
 -- Document 01, "One cycle, in this order": steps 1 to 8. P is the saved level of a pin, L its level now. Document 02, request One: in
--- power-down a cycle alters nothing.
+-- power-down a cycle alters nothing; request Two: Timer 2's overflow is heard in its own cycle.
 use Prim.Native.Nat.{ℕ, zero, suc, _+_, _%_, _^_}
 use mathlib.Core.Bool.{cond, _&&_}
 use mathlib.Core.List.{List}
@@ -13,10 +13,10 @@ use Rattle.machine.specs.declared.Ticks.{Ticks}
 use Rattle.machine.specs.declared.Interrupts.{Interrupts}
 use Rattle.machine.specs.declared.Device.{Device}
 use Rattle.machine.specs.Bits.{bit}
-use Rattle.machine.specs.Registers.{RXD, INT0, INT1, T0, T1, T2, T2EX, IT0, IT1, IE0, IE1}
+use Rattle.machine.specs.Registers.{RXD, INT0, INT1, T0, T1, T2, T2EX, IT0, IT1, IE0, IE1, ET2}
 use Rattle.machine.specs.Power.{poweredDown}
 use Rattle.machine.specs.Record.{pinsOf, levelsOf}
-use Rattle.machine.specs.Timers.{timersStep}
+use Rattle.machine.specs.Timers.{flagged, timersStep}
 use Rattle.machine.specs.Timer2.{timer2Step}
 use Rattle.machine.specs.Serial.{serialTicks, serialStep}
 use Rattle.machine.specs.Interrupts.{external, seenOf}
@@ -25,9 +25,11 @@ use Rattle.machine.specs.Interrupts.{external, seenOf}
 unfoldable pub falls : List ℕ → ℕ → ℕ → ℕ
 falls saved pins pin = cond (eqb (getD saved pin 0) 1 && eqb (bit pin pins) 0) 1 0
 
--- step 1: polled takes seen, so that a flag is heard one cycle after it was seen; and step 8: seen takes the flags
-abbrev pub polling : ℕ → Interrupts → Interrupts
-polling seen i = record { ie = i .ie; ip = i .ip; seen = seen; polled = i .seen; low = i .low; high = i .high }
+-- step 1: polled takes seen, so that a flag is heard one cycle after it was seen; Timer 2's bit is also 1 where an overflow set TF2 in
+-- this cycle, newly or again (tf2 is 1). And step 8: seen takes the flags
+abbrev pub polling : ℕ → ℕ → Interrupts → Interrupts
+polling tf2 seen i =
+    record { ie = i .ie; ip = i .ip; seen = seen; polled = flagged ET2 tf2 (i .seen); low = i .low; high = i .high }
 
 -- step 6, on TCON: INT0, then INT1
 unfoldable pub externals : List ℕ → ℕ → ℕ → ℕ
@@ -94,7 +96,7 @@ steps d pins =
       timers = t;
       timer2 = u;
       serial = s;
-      interrupts = polling (seenOf (t .tcon) (s .scon) (u .t2con)) (d .interrupts);
+      interrupts = polling (c .timer2 .tf2) (seenOf (t .tcon) (s .scon) (u .t2con)) (d .interrupts);
       levels = levelsOf pins;
       cycle = (d .cycle + 1) % 2 ^ 64;
     }

@@ -13,4 +13,5 @@ pub mod Rollovers
 pub mod Calls
 pub mod Lists
 pub mod Sleep
+pub mod Heard
 pub mod Cards

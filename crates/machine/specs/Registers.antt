@@ -82,9 +82,12 @@ TI = 1
 abbrev pub RI : ℕ
 RI = 0
 
--- IE: the general enable; the six sources stand at bits 0 to 5 of IE, IP, seen and polled
+-- IE: the general enable, and Timer 2's; the six sources stand at bits 0 to 5 of IE, IP, seen and polled
 abbrev pub EA : ℕ
 EA = 7
+
+abbrev pub ET2 : ℕ
+ET2 = 5
 
 -- T2CON
 abbrev pub TF2 : ℕ

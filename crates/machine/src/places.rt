@@ -52,8 +52,10 @@ pub const TI: u8 = 1;
 
 pub const RI: u8 = 0;
 
-// IE: the general enable.
+// IE: the general enable, and Timer 2's, whose place is that of Timer 2 in IP, seen and polled too.
 pub const EA: u8 = 7;
+
+pub const ET2: u8 = 5;
 
 // T2CON.
 pub const TF2: u8 = 7;

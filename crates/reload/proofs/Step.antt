@@ -145,7 +145,7 @@ module _ (l : ℕ) (d : Device) (f : Idle l d) (x : Idling) (o : ℕ)
   unfolding putIdling ticksIn steps23
   idle-steps =
       steps-rest l d (f .rest) steps23 _ counted-idle step5
-      (record { tcon = refl; due0 = refl; due1 = refl; t2con = refl; due2 = refl; scon = refl })
+      (record { tcon = refl; due0 = refl; due1 = refl; t2con = refl; due2 = refl; scon = refl; tf2 = refl })
 
 pub steps-idle : (l : ℕ) (d : Device) → Ranges d → Idle l d
     → steps d l ≡ putIdling ((d .cycle + 1) % 2 ^ 64) (idleCycle (clockingOf l d) (idlingOf d)) d

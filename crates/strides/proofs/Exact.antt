@@ -11,10 +11,10 @@ use borrow.Author.Tests.{not-false}
 use Rattle.machine.specs.declared.Overflows.{Overflows}
 use Rattle.machine.specs.declared.Device.{Device}
 use Rattle.machine.specs.Bits.{bit}
-use Rattle.machine.specs.Registers.{RXD, T0, T1, T2, T2EX, TF0, TF1, IE0, IE1, RI, TI, TF2, EXF2}
+use Rattle.machine.specs.Registers.{RXD, T0, T1, T2, T2EX, TF0, TF1, IE0, IE1, RI, TI, ET2, TF2, EXF2}
 use Rattle.machine.specs.Power.{poweredDown}
 use Rattle.machine.specs.Record.{pinsOf, levelsOf}
-use Rattle.machine.specs.Timers.{timersStep, timerFlags}
+use Rattle.machine.specs.Timers.{flagged, timersStep, timerFlags}
 use Rattle.machine.specs.Serial.{serialTicks, serialStep}
 use Rattle.machine.specs.Interrupts.{either, seenOf}
 use Rattle.machine.specs.Flags.{flags}
@@ -22,7 +22,9 @@ use Rattle.machine.specs.Cycle.{falls, externals, timersAfter, timer2After, cou
 use Rattle.machine.specs.Calls.{longest}
 use Rattle.laws.specs.Ranges.{Ranges}
 use Rattle.machine.proofs.Choices.{by-test, or-left, or-right, or-neither, not-differs}
+use Rattle.laws.proofs.Bits.{flagged-none}
 use Rattle.cycle.proofs.Steps.{cycle-up}
+use Rattle.cycle.proofs.Heard.{tf2-none}
 use Rattle.strides.specs.Busy.{same, overflowed, overflows, working, watched, busy}
 use Rattle.strides.specs.Stride.{startNext, awakeRoom, strideTimers, stride2, strideSerial, awakeStride, room, stride}
 use Rattle.strides.proofs.Bools.{same-equal, same-self}
@@ -223,9 +225,16 @@ module _ (pins : ℕ) (d : Device) (r : Ranges d) (still : Still pins d) where
   unfolding steps timer2After l
   seen = still .alike .seen ∙ sym same-seen
 
+  -- no overflow set TF2, so that polled takes seen and nothing else
+  unheard : counted d l .timer2 .tf2 ≡ 0
+  unfolding counted l
+  unheard = tf2-none (d .timer2) (falls (d .levels) l T2EX) (still .overflow .timer2)
+
   polled : d .interrupts .polled ≡ seenIn d
-  unfolding steps
-  polled = still .alike .polled ∙ seen
+  unfolding steps l
+  polled =
+      still .alike .polled
+      ∙ (ap (λ (n : ℕ). flagged ET2 n (d .interrupts .seen)) unheard ∙ (flagged-none ET2 (d .interrupts .seen) ∙ seen))
 
   -- a start bit that waits would be found
   found : startNext (bit RXD l) (d .serial) ≡ true → steps d l .serial .receive .position ≡ 1

@@ -1,5 +1,5 @@
 -- A cycle of a settled device, from what steps 2 to 5 leave of its parts: where they leave TCON, SCON, T2CON and the due
--- marks as they were, steps 6 to 8 change nothing but the cycle number.
+-- marks as they were and no overflow sets TF2, the other steps change nothing but the cycle number.
 use Prim.Native.Nat.{ℕ, _+_, _%_, _^_}
 use mathlib.Core.Path.{_≡_, refl, sym, ap, _∙_}
 use mathlib.Core.List.{List}
@@ -9,11 +9,13 @@ use Rattle.machine.specs.declared.Counted.{Counted}
 use Rattle.machine.specs.declared.Serial.{Serial}
 use Rattle.machine.specs.declared.Device.{Device}
 use Rattle.machine.specs.Bits.{bit}
-use Rattle.machine.specs.Registers.{RXD, T0, T1, T2}
+use Rattle.machine.specs.Registers.{RXD, T0, T1, T2, ET2}
 use Rattle.machine.specs.Record.{levelsOf}
+use Rattle.machine.specs.Timers.{flagged}
 use Rattle.machine.specs.Serial.{serialStep}
 use Rattle.machine.specs.Interrupts.{seenOf}
 use Rattle.machine.specs.Cycle.{falls, polling, externals, timersAfter, timer2After, counted, ticksIn, steps}
+use Rattle.laws.proofs.Bits.{flagged-none}
 use Rattle.strides.specs.Stride.{withParts}
 use Rattle.strides.proofs.Settles.{Rest, no-fall, externals-rest}
 
@@ -29,7 +31,7 @@ unfolding timer2After
 timer2-after saved l t p =
     λ i. record { t2con = t .t2con; rcap2l = t .rcap2l; rcap2h = t .rcap2h; tl2 = t .tl2; th2 = t .th2; due2 = p i }
 
--- what steps 2 to 5 leave has these bits and marks as before
+-- what steps 2 to 5 leave has these bits and marks as before, and no overflow set TF2, newly or again
 pub record Kept (d : Device) (c : Counted) (s : Serial) : Type 0 where
   pub tcon : c .timers .timers .tcon ≡ d .timers .tcon
   pub due0 : c .timers .timers .due0 ≡ d .timers .due0
@@ -37,6 +39,7 @@ pub record Kept (d : Device) (c : Counted) (s : Serial) : Type 0 where
   pub t2con : c .timer2 .timer2 .t2con ≡ d .timer2 .t2con
   pub due2 : c .timer2 .timer2 .due2 ≡ d .timer2 .due2
   pub scon : s .scon ≡ d .serial .scon
+  pub tf2 : c .timer2 .tf2 ≡ 0
 
 module _ (l : ℕ) (d : Device) (r : Rest l d) where
   -- no pin falls
@@ -61,13 +64,16 @@ module _ (l : ℕ) (d : Device) (r : Rest l d) where
       seen : seenOf (c .timers .timers .tcon) (s .scon) (c .timer2 .timer2 .t2con) ≡ d .interrupts .seen
       seen = (λ i. seenOf (k .tcon i) (k .scon i) (k .t2con i)) ∙ sym (r .seen)
 
-      still : polling (seenOf (c .timers .timers .tcon) (s .scon) (c .timer2 .timer2 .t2con)) (d .interrupts) ≡ d .interrupts
+      polled : flagged ET2 (c .timer2 .tf2) (d .interrupts .seen) ≡ d .interrupts .polled
+      polled = rw (k .tf2) (flagged-none ET2 (d .interrupts .seen) ∙ (r .seen ∙ sym (r .polled)))
+
+      still : polling (c .timer2 .tf2) (seenOf (c .timers .timers .tcon) (s .scon) (c .timer2 .timer2 .t2con)) (d .interrupts) ≡ d .interrupts
       still =
           λ i. record {
             ie = d .interrupts .ie;
             ip = d .interrupts .ip;
             seen = seen i;
-            polled = (r .seen ∙ sym (r .polled)) i;
+            polled = polled i;
             low = d .interrupts .low;
             high = d .interrupts .high;
           }

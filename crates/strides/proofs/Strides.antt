@@ -54,7 +54,7 @@ module _ (l : ℕ) (d : Device) (r : Ranges d) (s : Rest l d) (h : 1 ≤ roomTim
   quiet-steps =
       steps-rest l d s (quietCounted l d) _ counted-quiet
       (quiet-serial (d .pcon) (d .timer2 .t2con) (d .serial) (r .serial) (bit RXD l) (s .sends) (s .receives) (s .starts))
-      (record { tcon = refl; due0 = refl; due1 = refl; t2con = refl; due2 = refl; scon = refl })
+      (record { tcon = refl; due0 = refl; due1 = refl; t2con = refl; due2 = refl; scon = refl; tf2 = refl })
 
 -- Strides out of power-down
 

@@ -241,7 +241,30 @@ impl Device {
         answer(a.code, (a.found == 1).then_some(a.at))
     }
 
-    /// The vector of the interrupt that is offered.
+    /// The vector of the interrupt that is offered. A flag is heard in the cycle after the one that set it, but an overflow that sets
+    /// TF2 in its own. A lamp that Timer 2 switches every 1,000 cycles:
+    ///
+    /// ```
+    /// use c51::{address, Device, PINS_HIGH};
+    ///
+    /// let mut device = Device::reset(52)?;
+    /// let [high, low] = (u16::MAX - 999).to_be_bytes(); // overflows in the 1,000th cycle
+    /// let count = [(address::RCAP2H, high), (address::RCAP2L, low), (address::TH2, high), (address::TL2, low)];
+    /// for (register, byte) in count {
+    ///     device.write(register, byte)?;
+    /// }
+    /// device.write(address::IE, 0xA0)?;
+    /// device.write(address::T2CON, 0x04)?; // run, reload on overflow
+    /// for switched in 1..=3 {
+    ///     assert_eq!(device.wake_look(PINS_HIGH, 10_000)?, Some(1_000));
+    ///     device.jump(PINS_HIGH, 1_000)?;
+    ///     assert_eq!((device.cycle, device.offer()?), (1_000 * switched, Some(0x2B)));
+    ///     device.take()?;
+    ///     device.write(address::T2CON, 0x04)?; // the take leaves TF2: the program clears it
+    ///     device.return_from_interrupt()?;
+    /// }
+    /// # Ok::<(), c51::Refusal>(())
+    /// ```
     #[inline]
     pub fn offer(&self) -> Result<Option<u8>, Refusal> {
         let a = raw::c51_offer(*self);

@@ -110,6 +110,61 @@ fn wake_looks() {
     assert_eq!(device.wake_look(PINS_HIGH, 2), Ok(Some(2)));
 }
 
+/// Timer 2 of a device at a count, with a reload value and a T2CON, its interrupt enabled.
+fn timer_2_at(count: u16, reload: u16, t2con: u8) -> Device {
+    let mut device = Device::reset(52).unwrap();
+    let [th2, tl2] = count.to_be_bytes();
+    let [rcap2h, rcap2l] = reload.to_be_bytes();
+    let timer_2 = [(address::TH2, th2), (address::TL2, tl2), (address::RCAP2H, rcap2h), (address::RCAP2L, rcap2l)];
+    for (address, value) in timer_2.into_iter().chain([(address::IE, 0xA0), (address::T2CON, t2con)]) {
+        device.write(address, value).unwrap();
+    }
+    device
+}
+
+/// The offers after each of the first cycles, with one pin byte.
+fn offers(mut device: Device, pins: u8) -> [Option<u8>; 3] {
+    let first = device.wake_look(pins, 3).unwrap();
+    let offers = std::array::from_fn(|_| {
+        device.cycle(pins).unwrap();
+        device.offer().unwrap()
+    });
+    assert_eq!(first, offers.iter().position(Option::is_some).map(|k| k as u64 + 1), "the wake look names the first");
+    offers
+}
+
+/// An overflow that sets TF2 is heard in its own cycle, with auto-reload and capture, as a timer and as a counter, newly and again;
+/// EXF2, a TF2 that software set and the overflows of a baud rate generator are not.
+#[test]
+fn timer_2_is_heard_in_its_own_cycle() {
+    const LOW_T2: u8 = PINS_HIGH & !0x20;
+    const LOW_T2EX: u8 = PINS_HIGH & !0x40;
+    const VECTOR: Option<u8> = Some(0x2B);
+    for t2con in [0x04, 0x05] {
+        assert_eq!(offers(timer_2_at(0xFFFE, 0, t2con), PINS_HIGH), [None, VECTOR, VECTOR], "T2CON {t2con:02X}");
+        assert_eq!(offers(timer_2_at(0xFFFF, 0, t2con), PINS_HIGH), [VECTOR; 3], "T2CON {t2con:02X}");
+        assert_eq!(offers(timer_2_at(0xFFFF, 0, t2con | 0x02), LOW_T2), [None, VECTOR, VECTOR], "T2 falls in 1, counts in 2");
+        assert_eq!(offers(timer_2_at(0, 0, t2con | 0x08), LOW_T2EX), [None, VECTOR, VECTOR], "EXF2 rises in 1 and waits");
+    }
+    for t2con in [0x80, 0x84, 0x40, 0x44] {
+        assert_eq!(offers(timer_2_at(0, 0, t2con), PINS_HIGH), [None, VECTOR, VECTOR], "T2CON {t2con:02X}, written");
+    }
+    for clock in [0x10, 0x20, 0x30] {
+        let generator = timer_2_at(0xFFFF, 0xFFFF, 0x04 | clock);
+        assert_eq!(offers(generator, PINS_HIGH), [None; 3]);
+        assert_eq!(generator.wake_look(PINS_HIGH, 1_000_000), Ok(None));
+    }
+
+    let mut device = timer_2_at(0xFFFF, 0xFFFF, 0x04);
+    device.cycle(PINS_HIGH).unwrap();
+    assert_eq!(device.take(), Ok(0x2B));
+    device.return_from_interrupt().unwrap();
+    assert_eq!((device.read(address::T2CON), device.offer()), (Ok(0x84), Ok(None)), "TF2 stays, nothing is offered");
+    assert_eq!(offers(device, PINS_HIGH), [VECTOR; 3], "each overflow sets TF2 again");
+    device.write(address::T2CON, 0x80).unwrap();
+    assert_eq!(offers(device, PINS_HIGH), [None, VECTOR, VECTOR], "no overflow: TF2 is heard after two cycles");
+}
+
 /// In idle the device goes on as one that is awake, and a take clears IDL and no other bit of PCON.
 #[test]
 fn idle() {

@@ -32,14 +32,15 @@ returns c =
     let n = c .before .before in
     let l = n .before in
     let g = l .before in
-    let u = g .before in
+    let p = g .before in
+    let u = p .before in
     let t = u .before in
     let s = t .before in
     let k = s .before in
     let e = k .before in
     let a = e .before .before .args in
     steps-are (a .d) (a .pins) (e .counted .ensures) (k .ticks-in .ensures) (simp bits)
-    (s .serial-step .ensures) (t .timers-after .ensures) (u .timer2-after .ensures) (g .seen-of .ensures) (l .levels-of .ensures)
+    (s .serial-step .ensures) (t .timers-after .ensures) (u .timer2-after .ensures) (p .flagged .ensures) (g .seen-of .ensures) (l .levels-of .ensures)
     (n .wrapping-add-u64 .ensures)
 
 pub cycle-once-spec : {M : Type 1} → statement M
@@ -51,6 +52,7 @@ cycle-once-spec =
     serial-step-requires
     timers-after-requires
     timer2-after-requires
+    (search needs)
     (search needs)
     (search needs)
     (search needs)
