@@ -134,7 +134,7 @@ typedef struct {
     uint8_t ie;     /* IE, within BF (kind 51: 9F) */
     uint8_t ip;     /* IP, within 3F (kind 51: 1F) */
     uint8_t seen;   /* 0 to 63: the sources as the last cycle left them, IE0 TF0 IE1 TF1 serial Timer 2 from bit 0 */
-    uint8_t polled; /* 0 to 63: the same a cycle earlier, and Timer 2 also if its overflow set TF2 in the last; offers come from here */
+    uint8_t polled; /* 0 to 63: the same a cycle earlier, Timer 2 also if an overflow set TF2 in the last; offers come from here */
     uint8_t low;    /* 0 or 1: an interrupt of the low level is in service */
     uint8_t high;   /* 0 or 1: one of the high level is */
 } c51_interrupts;
@@ -228,8 +228,8 @@ c51_answer c51_reset(uint8_t kind);
 /* Reads a register; SBUF gives the received byte. Refusals: 1, 3. */
 c51_value_answer c51_read(c51_device device, uint8_t address);
 
-/* The vector of the interrupt that is offered, 03 0B 13 1B 23 2B, or none. A flag is heard in the cycle after the one that set it, but
- * an overflow that sets TF2, newly or again, in its own. Refusal: 1. */
+/* The vector of the interrupt that is offered, 03 0B 13 1B 23 2B, or none. A flag that a cycle sets is polled in the next, one that
+ * is written in the second; an overflow that sets TF2, newly or again, is polled in its own cycle. Refusal: 1. */
 c51_offer_answer c51_offer(c51_device device);
 
 /* The first of the next n cycles in which one of TF0, TF1, IE0, IE1, RI, TI, TF2, EXF2 goes from 0 to 1 under this pin byte, or none.

@@ -1,59 +1,49 @@
 -- Timer 2's overflow is heard in its own cycle, and nothing else is: from what step 3 hands on of an overflow that sets TF2.
-use Prim.Native.Nat.{ℕ, _+_, _*_, _/_, _<_, _≤_}
+use Prim.Native.Nat.{ℕ}
 use mathlib.Core.Path.{_≡_, refl, sym, ap, _∙_}
 use mathlib.Core.Bool.{Bool, true, false, cond, _&&_, _||_, not, and-true, and-false}
+use mathlib.Core.Logic.{_≢_}
+use native.Mathlib.Nat.{zero-add}
 use native.Mathlib.Omega.{arith}
 use lib.Dec.{eqb}
-use borrow.Author.Tests.{eqb-true, eqb-false, eq-eqb}
+use borrow.Author.Tests.{eqb-true, eq-eqb}
 use Rattle.machine.specs.declared.Timer2.{Timer2}
 use Rattle.machine.specs.declared.Timer2Counted.{Timer2Counted}
 use Rattle.machine.specs.declared.Interrupts.{Interrupts}
 use Rattle.machine.specs.declared.Device.{Device}
 use Rattle.machine.specs.Bits.{bit}
-use Rattle.machine.specs.Registers.{RI, TI, EA, ET2, TF2, EXF2, TR2, C/T2, T2EX}
+use Rattle.machine.specs.Registers.{ET2, TF2, EXF2, TR2, C/T2, T2EX}
 use Rattle.machine.specs.Power.{poweredDown}
 use Rattle.machine.specs.Record.{accepted, pinsOf}
-use Rattle.machine.specs.Timers.{flagged}
+use Rattle.machine.specs.Counting.{overflow}
+use Rattle.machine.specs.Timers.{clocked, flagged}
 use Rattle.machine.specs.Timer2.{count2, rcap2, countOnce, countTimes, baudRate, countsOf2, heedsT2EX, captures, counted2, baudStep, copied2, captureStep, timer2Step}
-use Rattle.machine.specs.Interrupts.{Source, none, source, someSource, asks, asksMarked, firstOf, sources, orElse, choice, offered, noneInService, either, seenOf}
+use Rattle.machine.specs.Interrupts.{none, source, asks, asksMarked, firstOf, sources, orElse, choice, offered, noneInService}
 use Rattle.machine.specs.Cycle.{falls, counted, timer2After, steps, cycleOf}
-use Rattle.machine.specs.Heard.{setsTF2, HeardAtOnce}
 use Rattle.laws.specs.Ranges.{Timer2Ok}
 use Rattle.laws.proofs.Bits.{bit-set-other, bit-flagged, bit-flagged-other}
-use Rattle.machine.proofs.Choices.{chosen, by-test, and-two, and-both}
-use Rattle.interrupts.proofs.Laws.{either-few}
+use Rattle.laws.proofs.Counting.{overflow-at}
+use Rattle.machine.proofs.Choices.{chosen, and-two, and-both}
 use Rattle.record.proofs.Accepted.{ranges-of}
+use Rattle.cycle.specs.Heard.{overflowsNext, setsTF2, timer2Enabled, HeardAtOnce}
 use Rattle.cycle.proofs.Steps.{cycle-up}
 
 -- Step 3: whether an overflow sets TF2
 
--- the step, by its two tests
-abbrev stepOf : Bool → Bool → Timer2 → ℕ → Timer2Counted
-stepOf run baud t fell = cond run (cond baud (baudStep t fell) (captureStep t fell)) (record { timer2 = t; overflows = 0; tf2 = 0 })
-
 -- only an overflow does
 pub tf2-none : (t : Timer2) (fell : ℕ) → timer2Step t fell .overflows ≡ 0 → timer2Step t fell .tf2 ≡ 0
 unfolding timer2Step baudStep captureStep
-tf2-none t fell = go (eqb (bit TR2 (t .t2con)) 1) (baudRate t)
+tf2-none t fell =
+    chosen Without (eqb (bit TR2 (t .t2con)) 1) _ _
+    (chosen Without (baudRate t) (baudStep t fell) (captureStep t fell) (λ e. refl) (λ e. e)) (λ e. refl)
   where
-    go : (run baud : Bool) → stepOf run baud t fell .overflows ≡ 0 → stepOf run baud t fell .tf2 ≡ 0
-    go false baud e = refl
-    go true true e = refl
-    go true false e = e
+    Without : Timer2Counted → Type 0
+    Without r = r .overflows ≡ 0 → r .tf2 ≡ 0
 
--- the overflow of one count
-overflow-at : (n : ℕ) → n ≤ 0xffff → 0 + (n + 1) / 0x10000 ≡ cond (eqb n 0xffff) 1 0
-overflow-at n h =
-    by-test (eqb n 0xffff) (λ e. simp e (omega (arith, eqb-true n 0xffff e))) (λ e. simp e (omega (arith, eqb-false n 0xffff e)))
-
--- at FFFF, where it counts in this cycle
-abbrev laps : Timer2 → Bool
-laps t = eqb (count2 t) 0xffff && (eqb (bit C/T2 (t .t2con)) 0 || eqb (t .due2) 1)
-
--- of the counts of a cycle, at most one, one overflows there
-counted-laps : (reload : ℕ) (t : Timer2) → Timer2Ok t → counted2 1 reload t .overflows ≡ cond (laps t) 1 0
-unfolding counted2 countsOf2 countTimes countOnce
-counted-laps reload t b = go (eqb (bit C/T2 (t .t2con)) 0) (eqb (t .due2) 1)
+-- the counts of a cycle with capture or auto-reload, of which there is at most one
+counted-next : (reload : ℕ) (t : Timer2) → Timer2Ok t → counted2 1 reload t .overflows ≡ cond (overflowsNext t) 1 0
+unfolding overflowsNext clocked counted2 countsOf2 countTimes countOnce
+counted-next reload t b = go (eqb (bit C/T2 (t .t2con)) 0) (eqb (t .due2) 1)
   where
     full : Bool
     full = eqb (count2 t) 0xffff
@@ -62,7 +52,9 @@ counted-laps reload t b = go (eqb (bit C/T2 (t .t2con)) 0) (eqb (t .due2) 1)
     after n = countTimes n reload (record { count = count2 t; overflows = 0 }) .overflows
 
     once : after 1 ≡ cond (full && true) 1 0
-    once = overflow-at (count2 t) (omega (arith, b .tl2, b .th2)) ∙ ap (λ (x : Bool). cond x 1 0) (sym (and-true full))
+    once =
+        zero-add (overflow 16 (count2 t))
+        ∙ (overflow-at 16 (count2 t) (omega (arith, b .tl2, b .th2)) ∙ ap (λ (x : Bool). cond x 1 0) (sym (and-true full)))
 
     go : (timer due : Bool) → after (cond timer 1 (cond due 1 0)) ≡ cond (full && (timer || due)) 1 0
     go true due = once
@@ -73,75 +65,56 @@ tf2-sets : (t : Timer2) (fell : ℕ) → Timer2Ok t → timer2Step t fell .tf2 �
 unfolding setsTF2 timer2Step baudStep captureStep
 tf2-sets t fell b = go (eqb (bit TR2 (t .t2con)) 1) (baudRate t)
   where
-    go : (run baud : Bool) → stepOf run baud t fell .tf2 ≡ cond ((run && not baud) && laps t) 1 0
+    go : (run baud : Bool)
+        → (cond run (cond baud (baudStep t fell) (captureStep t fell)) (record { timer2 = t; overflows = 0; tf2 = 0 })) .tf2
+        ≡ cond ((run && not baud) && overflowsNext t) 1 0
     go false baud = refl
     go true true = refl
-    go true false = counted-laps (cond (captures t) 0 (rcap2 t)) t b
+    go true false = counted-next (cond (captures t) 0 (rcap2 t)) t b
 
 -- TF2 after the step
 tf2-after : (t : Timer2) (fell : ℕ)
     → bit TF2 (timer2Step t fell .timer2 .t2con) ≡ cond (eqb (timer2Step t fell .tf2) 1) 1 (bit TF2 (t .t2con))
 unfolding timer2Step baudStep captureStep copied2
-tf2-after t fell = go (eqb (bit TR2 (t .t2con)) 1) (baudRate t)
+tf2-after t fell =
+    chosen After (eqb (bit TR2 (t .t2con)) 1) _ _
+    (chosen After (baudRate t) (baudStep t fell) (captureStep t fell)
+    (bit-flagged-other TF2 EXF2 (cond (heedsT2EX t fell) 1 0) (t .t2con) (omega arith))
+    (chosen (λ (u : Timer2). bit TF2 (u .t2con) ≡ cond (eqb o 1) 1 (bit TF2 (t .t2con))) (heedsT2EX t fell) _ _
+    (ap (bit TF2) (copied _) ∙ (bit-set-other TF2 EXF2 (flagged TF2 o (t .t2con)) (omega arith) ∙ set)) set))
+    refl
   where
+    After : Timer2Counted → Type 0
+    After r = bit TF2 (r .timer2 .t2con) ≡ cond (eqb (r .tf2) 1) 1 (bit TF2 (t .t2con))
+
     o : ℕ
     o = counted2 1 (cond (captures t) 0 (rcap2 t)) t .overflows
 
-    t2con : ℕ
-    t2con = flagged TF2 o (t .t2con)
+    set : bit TF2 (flagged TF2 o (t .t2con)) ≡ cond (eqb o 1) 1 (bit TF2 (t .t2con))
+    set = bit-flagged TF2 o (t .t2con)
 
     -- T2EX's copy leaves T2CON
     copied : (u : Timer2) → copied2 u .t2con ≡ u .t2con
     copied u = chosen (λ (v : Timer2). v .t2con ≡ u .t2con) (captures u) _ _ refl refl
 
-    go : (run baud : Bool)
-        → bit TF2 (stepOf run baud t fell .timer2 .t2con) ≡ cond (eqb (stepOf run baud t fell .tf2) 1) 1 (bit TF2 (t .t2con))
-    go false baud = refl
-    go true true = bit-flagged-other TF2 EXF2 (cond (heedsT2EX t fell) 1 0) (t .t2con) (omega arith)
-    go true false =
-        chosen (λ (u : Timer2). bit TF2 (u .t2con) ≡ cond (eqb o 1) 1 (bit TF2 (t .t2con))) (heedsT2EX t fell) _ _
-        (ap (bit TF2) (copied _) ∙ (bit-set-other TF2 EXF2 t2con (omega arith) ∙ bit-flagged TF2 o (t .t2con)))
-        (bit-flagged TF2 o (t .t2con))
+-- The offer where Timer 2 asks and no other source does
 
--- Step 8: Timer 2's bit of seen
-
-top-bit : (low high : ℕ) → low < 32 → high < 2 → bit ET2 (low + high * 32) ≡ high
-top-bit low high h k = omega arith
-
-seen-timer2 : (tcon scon t2con : ℕ) → bit ET2 (seenOf tcon scon t2con) ≡ either (bit TF2 t2con) (bit EXF2 t2con)
-unfolding seenOf
-seen-timer2 tcon scon t2con =
-    top-bit _ (either (bit TF2 t2con) (bit EXF2 t2con)) (omega (arith, either-few (bit RI scon) (bit TI scon))) (either-few _ _)
-
--- An interrupt that asks while none is in service is offered, or one before it
-
-first-some : (f : ℕ → Bool) → f ET2 ≡ true → someSource (firstOf f sources) ≡ true
+only-first : (f : ℕ → Bool) → ((k : ℕ) → k ≢ ET2 → f k ≡ false) → firstOf f sources ≡ cond (f ET2) (source ET2) none
 unfolding firstOf
-first-some f e = go (f 0) (f 1) (f 2) (f 3) (f 4)
-  where
-    go : (a b c d g : Bool)
-        → someSource
-        (cond a (source 0)
-        (cond b (source 1)
-        (cond c (source 2) (cond d (source 3) (cond g (source 4) (cond (f ET2) (source ET2) none)))))) ≡ true
-    go true b c d g = refl
-    go false true c d g = refl
-    go false false true d g = refl
-    go false false false true g = refl
-    go false false false false true = refl
-    go false false false false false = rw e
+only-first f e = simp (e 0 (omega arith), e 1 (omega arith), e 2 (omega arith), e 3 (omega arith), e 4 (omega arith))
 
-orElse-some : (a b : Source) → someSource b ≡ true → someSource (orElse a b) ≡ true
-orElse-some none b e = e
-orElse-some (source k) b e = refl
+marked-or-not : (marked : Bool) → orElse (cond marked (source ET2) none) (source ET2) ≡ source ET2
+marked-or-not true = refl
+marked-or-not false = refl
 
-asked-offered : (pcon : ℕ) (i : Interrupts) → poweredDown pcon ≡ false → noneInService i ≡ true → asks i ET2 ≡ true
-    → someSource (offered pcon i) ≡ true
+only-offered : (pcon : ℕ) (i : Interrupts) → poweredDown pcon ≡ false → noneInService i ≡ true → asks i ET2 ≡ true
+    → ((k : ℕ) → k ≢ ET2 → asks i k ≡ false) → offered pcon i ≡ source ET2
 unfolding offered choice
-asked-offered pcon i up free e =
+only-offered pcon i up free e f =
     let marks = and-two (eqb (i .high) 0) (eqb (i .low) 0) free in
-    rw (up, eqb-true (i .high) 0 (marks .0), eqb-true (i .low) 0 (marks .1))
-    (orElse-some (firstOf (asksMarked i) sources) (firstOf (asks i) sources) (first-some (asks i) e))
+    let first = only-first (asks i) f ∙ ap (λ (b : Bool). cond b (source ET2) none) e in
+    let marked = only-first (asksMarked i) (λ k h. ap (λ (b : Bool). b && eqb (bit k (i .ip)) 1) (f k h)) in
+    rw (up, eqb-true (i .high) 0 (marks .0), eqb-true (i .low) 0 (marks .1), first, marked) (marked-or-not (asksMarked i ET2))
 
 -- Steps 1 to 8, then the cycle
 
@@ -165,28 +138,35 @@ module _ (d : Device) (a : accepted d ≡ true) (l : ℕ) where
       go true = refl
       go false = refl
 
-  polls : bit ET2 (flagged ET2 tf2 (d .interrupts .seen)) ≡ cond sets 1 (bit ET2 (d .interrupts .seen))
-  polls = bit-flagged ET2 tf2 (d .interrupts .seen) ∙ by-sets (bit ET2 (d .interrupts .seen))
+  seen : ℕ
+  seen = d .interrupts .seen
 
-  sets-tf2 : bit TF2 (timer2Step (d .timer2) fell .timer2 .t2con) ≡ cond sets 1 (bit TF2 (d .timer2 .t2con))
-  unfolding tf2
-  sets-tf2 = tf2-after (d .timer2) fell ∙ by-sets (bit TF2 (d .timer2 .t2con))
+  polls : bit ET2 (flagged ET2 tf2 seen) ≡ cond sets 1 (bit ET2 seen)
+  polls = bit-flagged ET2 tf2 seen ∙ by-sets (bit ET2 seen)
+
+  -- the interrupt controller after the steps
+  after : Interrupts
+  after = steps d l .interrupts
+
+  asking : sets ≡ true → timer2Enabled (d .interrupts) ≡ true → asks after ET2 ≡ true
+  unfolding after steps counted tf2 fell seen
+  asking set on =
+      and-both (eqb (bit ET2 (flagged ET2 tf2 seen)) 1) _ (eq-eqb _ 1 (polls ∙ ap (λ (b : Bool). cond b 1 (bit ET2 seen)) set)) on
+
+  silent : ((k : ℕ) → k ≢ ET2 → bit k seen ≡ 0) → (k : ℕ) → k ≢ ET2 → asks after k ≡ false
+  unfolding after steps counted tf2 fell seen
+  silent unseen k h = rw (bit-flagged-other k ET2 tf2 seen h ∙ unseen k h) refl
 
   steps-heard : poweredDown (d .pcon) ≡ false → HeardAtOnce d (steps d l)
-  unfolding steps counted timer2After fell tf2 sets
+  unfolding steps counted timer2After fell tf2 sets seen after
   steps-heard up =
       record {
         timer2 = polls;
-        others = λ k h. bit-flagged-other k ET2 tf2 (d .interrupts .seen) h;
-        seen = seen-timer2 _ _ _;
-        tf2 = sets-tf2;
-        offers = λ set h.
-            let i = d .interrupts in
-            let parts = and-two (eqb (bit EA (i .ie)) 1 && eqb (bit ET2 (i .ie)) 1) (noneInService i) h in
-            let enabled = and-two (eqb (bit EA (i .ie)) 1) (eqb (bit ET2 (i .ie)) 1) (parts .0) in
-            let heard = polls ∙ ap (λ (b : Bool). cond b 1 (bit ET2 (i .seen))) set in
-            asked-offered (d .pcon) (steps d l .interrupts) up (parts .1)
-            (and-both _ _ (eq-eqb _ 1 heard) (and-both _ _ (enabled .1) (enabled .0)));
+        others = λ k h. bit-flagged-other k ET2 tf2 seen h;
+        seen = refl;
+        tf2 = tf2-after (d .timer2) fell ∙ by-sets (bit TF2 (d .timer2 .t2con));
+        asked = asking;
+        offers = λ set on unseen free. only-offered (d .pcon) after up free (asking set on) (silent unseen);
       }
 
 pub heard-at-once : (pins : ℕ) (d : Device) → accepted d ≡ true → poweredDown (d .pcon) ≡ false → HeardAtOnce d (cycleOf pins d)

@@ -8,7 +8,7 @@ use native.Mathlib.Nat.{add-zero, zero-add, add-comm, add-assoc, mod-eq-of-lt, m
 use native.Mathlib.Omega.{arith}
 use lib.Dec.{eqb, ltb}
 use lib.Pow.{pow-pos, mod-mod-pow, field}
-use borrow.Author.Tests.{ltb-true, ltb-false, ne-eqb}
+use borrow.Author.Tests.{ltb-true, ltb-false, eqb-true, eqb-false, ne-eqb}
 use Rattle.machine.specs.declared.Count.{Count}
 use Rattle.machine.specs.Counting.{next, overflow, nextOr}
 use Rattle.machine.specs.Timer2.{countOnce, countTimes}
@@ -27,6 +27,12 @@ overflow-up w n h = div-eq-of-lt h
 
 pub overflow-over : (w n : ℕ) → n + 1 ≡ 2 ^ w → overflow w n ≡ 1
 overflow-over w n e = ap (λ (m : ℕ). m / 2 ^ w) e ∙ div-self (pow-pos w)
+
+-- so an overflow comes at all ones
+pub overflow-at : (w n : ℕ) → n < 2 ^ w → overflow w n ≡ cond (eqb n (2 ^ w - 1)) 1 0
+overflow-at w n h =
+    by-test (eqb n (2 ^ w - 1)) (λ e. overflow-over w n (omega (arith, eqb-true n (2 ^ w - 1) e, h)) ∙ rw e refl)
+    (λ e. overflow-up w n (omega (arith, eqb-false n (2 ^ w - 1) e, h)) ∙ rw e refl)
 
 -- a number up to p: p goes to zero, and carries
 to-zero : (p m : ℕ) → 0 < m → m ≤ p → cond (eqb (m % p) 0) 1 0 ≡ m / p

@@ -49,7 +49,7 @@ pub fn pair16(tl: u8, th: u8) -> u16
     ((th as u16) << 8) | (tl as u16)
 }
 
-// An overflow sets the flag at bit k.
+// An overflow sets bit k: a flag, or its source's bit of polled.
 pub fn flagged(k: u8, overflow: u8, x: u8) -> u8
     requires { ⌜ k < 8 ⌝ }
     ensures { λ r. ⌜ r ≡ Timers.flagged k overflow x ⌝ }

@@ -423,7 +423,7 @@ timer2At : ℕ → ℕ → List Asked
 timer2At reload count =
     set RCAP2L reload ∷ set RCAP2H 0xff ∷ set TL2 count ∷ set TH2 0xff ∷ set IE 0xa0 ∷ []
 
--- at FFFE, with auto-reload or with capture, IE A0: TF2 rises in cycle 2; 002B is offered after 2, not after 3
+-- at FFFE, with auto-reload or with capture, IE A0: TF2 rises in cycle 2; 002B is offered after 2 already, not only after 3
 card17 : ℕ → ℕ → Row
 card17 t2con after =
     rowOf 17 52 (timer2At 0x00 0xfe ++ (
@@ -445,20 +445,20 @@ card17by : Asked → Row
 card17by run = rowOf 17 52 (timer2At 0x00 0xfe ++ (set T2CON 0x04 ∷ run ∷ holds T2CON 0x84 ∷ offers 0x2b ∷ []))
 
 -- as a counter at FFFF: T2 falls in cycle 1 and is counted in cycle 2
-card17counter : Row
-card17counter =
+card17counter : ℕ → ℕ → Row
+card17counter t2con after =
     rowOf 17 52 (timer2At 0x00 0xff ++ (
-    set T2CON 0x06
+    set T2CON t2con
     ∷ step lowT2
-    ∷ holds T2CON 0x06
+    ∷ holds T2CON t2con
     ∷ offersNone
     ∷ step lowT2
-    ∷ holds T2CON 0x86
+    ∷ holds T2CON after
     ∷ offers 0x2b
     ∷ []
     ))
 
--- EXF2 waits, with auto-reload and with capture: T2EX falls in cycle 1; none is offered after 1, 002B after 2
+-- EXF2 waits, with auto-reload, with capture and as a baud rate generator: T2EX falls in cycle 1; none is offered after 1, 002B after 2
 card18 : ℕ → ℕ → Row
 card18 t2con after =
     rowOf 18 52 (timer2At 0x00 0xf0 ++ (
@@ -491,15 +491,24 @@ card19 reload steps =
     ∷ steps
     ))
 
--- as a baud rate generator, which overflows in every cycle, it sets no TF2, and nothing is offered
-card20 : ℕ → Row
-card20 t2con =
-    rowOf 20 52 (timer2At 0xff 0xff ++ (set T2CON t2con ∷ wakesNone 9 ∷ go 9 ∷ holds T2CON t2con ∷ offersNone ∷ []))
+-- as a baud rate generator, which overflows six times a cycle from FFFF and once from FFFA, it sets no TF2, and nothing is offered
+card20 : ℕ → ℕ → Row
+card20 t2con count =
+    rowOf 20 52 (timer2At count count ++ (set T2CON t2con ∷ wakesNone 9 ∷ go 9 ∷ holds T2CON t2con ∷ offersNone ∷ []))
+
+-- nor where it counts T2, which falls in cycle 1 and is counted in cycle 2
+card20counter : Row
+card20counter =
+    rowOf 20 52 (timer2At 0xff 0xff ++ (set T2CON 0x26 ∷ step lowT2 ∷ step lowT2 ∷ holds TL2 0xff ∷ holds T2CON 0x26 ∷ offersNone ∷ []))
 
 -- TF2 or EXF2 written by software waits, Timer 2 stopped, counting or a baud rate generator: 002B is offered after 2
 card21 : ℕ → ℕ → Row
 card21 t2con count =
     rowOf 21 52 (timer2At count count ++ (set T2CON t2con ∷ wakes 9 2 ∷ step high ∷ offersNone ∷ step high ∷ offers 0x2b ∷ []))
+
+-- but an overflow that finds such a TF2 is heard in its own cycle
+card21again : Row
+card21again = rowOf 21 52 (timer2At 0x00 0xff ++ (set T2CON 0x84 ∷ wakes 9 1 ∷ step high ∷ offers 0x2b ∷ []))
 
 -- on both kinds
 both : (ℕ → Row) → List Row
@@ -544,20 +553,26 @@ cards =
     ∷ card17 0x05 0x85
     ∷ card17by (go 2)
     ∷ card17by (asked (trace (0x7f000002 ∷ [])) passes)
-    ∷ card17counter
+    ∷ card17counter 0x06 0x86
+    ∷ card17counter 0x07 0x87
     ∷ card18 0x0c 0x4c
     ∷ card18 0x0d 0x4d
+    ∷ card18 0x2c 0x6c
     ∷ card18both
     -- each cycle overflows: one that finds TF2 still 1 offers again after its own cycle
     ∷ card19 0xff (wakes 9 1 ∷ step high ∷ holds T2CON 0x84 ∷ offers 0x2b ∷ [])
     -- none does: TF2 is heard again after two cycles
     ∷ card19 0x00 (wakes 9 2 ∷ step high ∷ offersNone ∷ step high ∷ offers 0x2b ∷ [])
-    ∷ card20 0x14
-    ∷ card20 0x24
+    ∷ card20 0x14 0xff
+    ∷ card20 0x24 0xff
+    ∷ card20 0x14 0xfa
+    ∷ card20 0x24 0xfa
+    ∷ card20counter
     ∷ card21 0x80 0xff
     ∷ card21 0x84 0xf0
     ∷ card21 0x40 0xff
     ∷ card21 0xa4 0xff
+    ∷ card21again
     ∷ [])
     ∷ []
     )
@@ -569,5 +584,5 @@ failing (r ∷ rs) = cond (r .test (machine (r .kind) (r .calls))) (failing rs) 
 
 -- no row fails
 cards-hold : failing cards ≡ []
-unfolding sameNumbers sameValue sameReply sameReplies rowWith card1 card2 card3 card4 baud2 card5 card5counted mode1send card6 card6half card7 card8 card8shift card9 card10 card11 card12 card12line card13 card14 card15 card16 timer2At card17 card17by card17counter card18 card18both card19 card20 card21 both joined cards failing table implementedIn implemented registers hiddenFields accepted pinsOf levelsOf zeros resetOf count13 count16 reload8 count8 hold enabled clocked countIn flagged counts0 counts1 countsHigh0 pair0 high0 highOverflow0 pair1 timerFlags timersStep countOnce countTimes baudRate countsOf2 heedsT2EX captures counted2 baudStep copied2 captureStep timer2Step halfAfter ticks1 ticksOf serialTicks sendMove sendTick sendTicks send lineOf startFound receiveStart receiveRolled receiveCounted votesAdded bitOf frameDone receiveBit receiveWork receiveTick receiveTicks receiveShift receive serialStep writeSbuf receiveAsked writeScon external either seenOf firstOf choice offered inService taken returned falls counted externals timersAfter timer2After ticksIn stepsOf cycleOf cycles resetAnswer valueIn registerAt readAnswer stored writeAnswer cycleAnswer cyclesFault jumpAnswer entryFault firstBad traceFault traceCycles traceAnswer flags anyRises firstCycle lookAnswer wakeAnswer offerOf offerAnswer takeOf takeAnswer returnAnswer play run machine
+unfolding sameNumbers sameValue sameReply sameReplies rowWith card1 card2 card3 card4 baud2 card5 card5counted mode1send card6 card6half card7 card8 card8shift card9 card10 card11 card12 card12line card13 card14 card15 card16 timer2At card17 card17by card17counter card18 card18both card19 card20 card20counter card21 card21again both joined cards failing table implementedIn implemented registers hiddenFields accepted pinsOf levelsOf zeros resetOf count13 count16 reload8 count8 hold enabled clocked countIn flagged counts0 counts1 countsHigh0 pair0 high0 highOverflow0 pair1 timerFlags timersStep countOnce countTimes baudRate countsOf2 heedsT2EX captures counted2 baudStep copied2 captureStep timer2Step halfAfter ticks1 ticksOf serialTicks sendMove sendTick sendTicks send lineOf startFound receiveStart receiveRolled receiveCounted votesAdded bitOf frameDone receiveBit receiveWork receiveTick receiveTicks receiveShift receive serialStep writeSbuf receiveAsked writeScon external either seenOf firstOf choice offered inService taken returned falls counted externals timersAfter timer2After ticksIn stepsOf cycleOf cycles resetAnswer valueIn registerAt readAnswer stored writeAnswer cycleAnswer cyclesFault jumpAnswer entryFault firstBad traceFault traceCycles traceAnswer flags anyRises firstCycle lookAnswer wakeAnswer offerOf offerAnswer takeOf takeAnswer returnAnswer play run machine
 cards-hold = refl

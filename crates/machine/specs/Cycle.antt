@@ -25,8 +25,8 @@ use Rattle.machine.specs.Interrupts.{external, seenOf}
 unfoldable pub falls : List ℕ → ℕ → ℕ → ℕ
 falls saved pins pin = cond (eqb (getD saved pin 0) 1 && eqb (bit pin pins) 0) 1 0
 
--- step 1: polled takes seen, so that a flag is heard one cycle after it was seen; Timer 2's bit is also 1 where an overflow set TF2 in
--- this cycle, newly or again (tf2 is 1). And step 8: seen takes the flags
+-- step 1: polled takes seen, so that a flag is heard one cycle after it was seen; Timer 2's bit is also 1 where an overflow set
+-- TF2 in this cycle, newly or again (tf2 is 1). And step 8: seen takes the flags
 abbrev pub polling : ℕ → ℕ → Interrupts → Interrupts
 polling tf2 seen i =
     record { ie = i .ie; ip = i .ip; seen = seen; polled = flagged ET2 tf2 (i .seen); low = i .low; high = i .high }

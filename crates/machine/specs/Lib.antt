@@ -13,5 +13,4 @@ pub mod Rollovers
 pub mod Calls
 pub mod Lists
 pub mod Sleep
-pub mod Heard
 pub mod Cards

@@ -29,7 +29,7 @@ unfoldable pub countIn : ℕ → Count → ℕ → ℕ → Count
 countIn mode three tl th =
     cond (eqb mode 0) (count13 tl th) (cond (eqb mode 1) (count16 tl th) (cond (eqb mode 2) (reload8 tl th) three))
 
--- an overflow sets the flag at bit k
+-- an overflow sets bit k: a flag, or its source's bit of polled
 unfoldable pub flagged : ℕ → ℕ → ℕ → ℕ
 flagged k overflow x = cond (eqb overflow 1) (setBit k x) x
 

@@ -61,7 +61,7 @@ pub struct Serial {
 }
 
 // The interrupt controller: registers, the levels in service, and document 01's seen, the flags that the last cycle left, and
-// polled, those that the cycle before it left.
+// polled, those that the cycle before it left, and Timer 2's also where an overflow set TF2 in the last.
 #[repr(C)]
 pub struct Interrupts {
     pub ie: u8,

@@ -241,16 +241,15 @@ impl Device {
         answer(a.code, (a.found == 1).then_some(a.at))
     }
 
-    /// The vector of the interrupt that is offered. A flag is heard in the cycle after the one that set it, but an overflow that sets
-    /// TF2 in its own. A lamp that Timer 2 switches every 1,000 cycles:
+    /// The vector of the interrupt that is offered. A flag that a cycle sets is polled in the next, one that is written in the second;
+    /// an overflow that sets TF2, newly or again, is polled in its own cycle. A lamp that Timer 2 switches every 1,000 cycles:
     ///
     /// ```
     /// use c51::{address, Device, PINS_HIGH};
     ///
     /// let mut device = Device::reset(52)?;
     /// let [high, low] = (u16::MAX - 999).to_be_bytes(); // overflows in the 1,000th cycle
-    /// let count = [(address::RCAP2H, high), (address::RCAP2L, low), (address::TH2, high), (address::TL2, low)];
-    /// for (register, byte) in count {
+    /// for (register, byte) in [(address::RCAP2H, high), (address::RCAP2L, low), (address::TH2, high), (address::TL2, low)] {
     ///     device.write(register, byte)?;
     /// }
     /// device.write(address::IE, 0xA0)?;

@@ -86,7 +86,7 @@ fn an_interrupt_from_overflow_to_return() {
 }
 
 /// 0 where an interrupt is offered as the device stands, 1 where its source is seen and not polled, 2 where its flag is set and not
-/// seen, and none where it is not offered within the cycles or is not enabled.
+/// seen, and none where it is not offered within the cycles or is not enabled. Timer 2's overflow is apart, below.
 #[test]
 fn wake_looks() {
     let mut device = timer_0_at_fffe();
@@ -149,10 +149,17 @@ fn timer_2_is_heard_in_its_own_cycle() {
     for t2con in [0x80, 0x84, 0x40, 0x44] {
         assert_eq!(offers(timer_2_at(0, 0, t2con), PINS_HIGH), [None, VECTOR, VECTOR], "T2CON {t2con:02X}, written");
     }
+    assert_eq!(offers(timer_2_at(0xFFFF, 0, 0x84), PINS_HIGH), [VECTOR; 3], "an overflow sets the written TF2 again");
     for clock in [0x10, 0x20, 0x30] {
-        let generator = timer_2_at(0xFFFF, 0xFFFF, 0x04 | clock);
-        assert_eq!(offers(generator, PINS_HIGH), [None; 3]);
-        assert_eq!(generator.wake_look(PINS_HIGH, 1_000_000), Ok(None));
+        // six overflows a cycle, and one
+        for count in [0xFFFF, 0xFFFA] {
+            let generator = timer_2_at(count, count, 0x04 | clock);
+            assert_eq!(offers(generator, PINS_HIGH), [None; 3]);
+            assert_eq!(generator.wake_look(PINS_HIGH, 1_000_000), Ok(None));
+            assert_eq!(offers(timer_2_at(count, count, 0x84 | clock), PINS_HIGH), [None, VECTOR, VECTOR]);
+        }
+        assert_eq!(offers(timer_2_at(0xFFFF, 0xFFFF, 0x06 | clock), LOW_T2), [None; 3]);
+        assert_eq!(offers(timer_2_at(0, 0, 0x0C | clock), LOW_T2EX), [None, VECTOR, VECTOR], "EXF2 waits there too");
     }
 
     let mut device = timer_2_at(0xFFFF, 0xFFFF, 0x04);

@@ -40,8 +40,8 @@ returns c =
     let e = k .before in
     let a = e .before .before .args in
     steps-are (a .d) (a .pins) (e .counted .ensures) (k .ticks-in .ensures) (simp bits)
-    (s .serial-step .ensures) (t .timers-after .ensures) (u .timer2-after .ensures) (p .flagged .ensures) (g .seen-of .ensures) (l .levels-of .ensures)
-    (n .wrapping-add-u64 .ensures)
+    (s .serial-step .ensures) (t .timers-after .ensures) (u .timer2-after .ensures) (p .flagged .ensures)
+    (g .seen-of .ensures) (l .levels-of .ensures) (n .wrapping-add-u64 .ensures)
 
 pub cycle-once-spec : {M : Type 1} → statement M
 cycle-once-spec =
