@@ -5,18 +5,19 @@
 # Eleven stations reading tags. DEMO='--help' lists the options.
 demo: lib
 	@cd rust && cargo build --release --offline --quiet -p station
-	@rust/target/release/station --csv dist/tags.csv --vcd dist/station1.vcd $(DEMO)
+	@rust/target/release/station --csv dist/tags.csv --vcd dist/station.vcd $(DEMO)
 
 # The gate: every proof, every must-fail edit, every test. Its last line is 'N passed, M failed'.
 test:
 	@sh tests/gate.sh
 
-# The C library: dist/libc51.a and dist/c51.h.
+# The C library: dist/libc51.a, of the exports of c51_lent and board_lent, and dist/c51.h.
 lib:
 	@mkdir -p dist
 	@echo 'proving and building the library, some minutes the first time; log in dist/build.log'
-	@rt staticlib c51_lent >dist/build.log 2>&1 || { cat dist/build.log; exit 1; }
-	@cp target/staticlib/libc51_lent.a dist/libc51.a && cp include/c51.h dist/c51.h
+	@{ rt staticlib c51_lent && rt staticlib board_lent; } >dist/build.log 2>&1 || { cat dist/build.log; exit 1; }
+	@printf '%s\n' 'CREATE dist/libc51.a' 'ADDLIB target/staticlib/libc51_lent.a' 'ADDLIB target/staticlib/libboard_lent.a' SAVE END | ar -M
+	@cp include/c51.h dist/c51.h
 
 # dist/replay, which answers a call script (docs/SCRIPTS.md) on standard input.
 replay: lib

@@ -1,14 +1,15 @@
 /*
- * The proved peripherals of the 80C51 and 80C52: timers, serial port and interrupt controller.
+ * The proved peripherals of the 80C51 and 80C52: timers, serial port and interrupt controller; and the 82C53 interval timer beside
+ * the chip.
  *
  * A device is one record, c51_device, which the caller owns: the library keeps nothing between calls, so that any number of
- * devices run side by side and in any number of threads. Every call is answered for every content of the record and of its other
- * arguments; only a pointer has to point where its comment says.
+ * devices run side by side and in any number of threads. So is an 82C53, c53_interval, and a board that has both, c51_board. Every
+ * call is answered for every content of the record and of its other arguments; only a pointer has to point where its comment says.
  *
- * A call answers a code: 0, or the number of the refusal. The lowest number applies, with two exceptions: 10 goes after 1 and
- * before 3, 6 and 7; and in a trace 5 goes first after 1, then the first bad entry, 4 before 8 within it. A refused call leaves the
- * record as it was, and every other number of its answer is 0. Each call but c51_reset and c51_accepts first judges the record, so
- * that each of them may answer C51_BAD_RECORD.
+ * A call answers a code: 0, or the number of the refusal. The lowest number applies, with three exceptions: 10 goes after 1 and
+ * before 3, 6 and 7; 12 goes before 11; and in a trace 5 goes first after 1, then the first bad entry, 4 before 8 within it. A
+ * refused call leaves the record as it was, and every other number of its answer is 0. Each call but c51_reset, c51_accepts,
+ * c53_reset, c53_accepts and c53_outputs first judges the record, so that each of them may answer C51_BAD_RECORD.
  */
 #ifndef C51_H
 #define C51_H
@@ -27,15 +28,18 @@ enum {
     C51_BAD_RECORD = 1,         /* a field outside its range or mask, or a kind that is neither 51 nor 52 */
     C51_BAD_KIND = 2,           /* reset with another kind than 51 or 52 */
     C51_BAD_ADDRESS = 3,        /* read or write at an address that this kind lacks */
-    C51_BAD_PINS = 4,           /* a pin byte, also in a trace, with bit 7 set */
-    C51_TOO_LONG = 5,           /* more than C51_MAX_CYCLES cycles, or a trace of more than C51_MAX_TRACE entries */
+    C51_BAD_PINS = 4,           /* a pin byte, also in a trace, with bit 7 set; a gate byte above 7 */
+    C51_TOO_LONG = 5,           /* more than C51_MAX_CYCLES cycles or pulses, or a trace of more than C51_MAX_TRACE entries */
     C51_NOTHING_OFFERED = 6,    /* take with nothing offered */
     C51_NOTHING_IN_SERVICE = 7, /* return with nothing in service */
     C51_EMPTY_ENTRY = 8,        /* a trace entry of 0 cycles */
-    C51_POWERED_DOWN = 10       /* write, take or return in power-down */
+    C51_POWERED_DOWN = 10,      /* write, take or return in power-down */
+    C51_BAD_MODE = 11,          /* a control word of the 82C53 with another mode than 0 and 2 */
+    C51_BAD_CHOICE = 12,        /* a control word with counter choice 3, an address of the 82C53 above 3, or a read at 3 */
+    C51_BAD_COUNT = 13          /* a BCD digit above nine or a mode 2 count of 1, tested when the count is complete */
 };
 
-#define C51_MAX_CYCLES ((uint64_t)1 << 40) /* of one jump, look ahead or wake look */
+#define C51_MAX_CYCLES ((uint64_t)1 << 40) /* of one jump, look ahead or wake look; pulses likewise */
 #define C51_MAX_TRACE 65536u               /* entries of one trace */
 
 /* The pin byte of a cycle: a bit for each pin, bit 7 is 0. Kind 51 takes T2 and T2EX as 1. */
@@ -174,7 +178,7 @@ typedef struct {
     uint8_t vector;
 } c51_vector_answer;
 
-/* A read: the register. */
+/* A read: the register, or the byte of a count. */
 typedef struct {
     uint8_t code;
     uint8_t value;
@@ -273,6 +277,141 @@ enum {
  * neither it nor calls nor entries. */
 void c51_replay(c51_device *device, const uint64_t *calls, size_t calls_length, const uint32_t *entries, size_t entries_length,
                 uint64_t *answers, size_t answers_length);
+
+/* ---------------------------------------------------------------- the 82C53 interval timer
+ * Three counters with one clock, each with a gate and an output. Nothing counts before a whole count is written. */
+
+/* The addresses: the bytes of a counter's count, and the control word, which is not read. */
+enum {
+    C53_COUNTER0 = 0,
+    C53_COUNTER1 = 1,
+    C53_COUNTER2 = 2,
+    C53_CONTROL = 3
+};
+
+/* The control word, SC1 SC0 RL1 RL0 M2 M1 M0 BCD: the sum of a C53_SELECT, of C53_LOW, C53_HIGH or C53_BOTH, of a C53_MODE (110 is
+ * mode 2 too), and of C53_BCD for a count in BCD. It leaves the counter with count 0, no latch, no count to load and the low byte
+ * next, its output low in mode 0 and high in mode 2.
+ *
+ * A C53_SELECT alone is the latch command: reads give the count as it stood then, until it is read, with C53_BOTH until its high
+ * byte is; a second meanwhile is ignored. Its four low bits may be anything. */
+enum {
+    C53_SELECT0 = 0x00,
+    C53_SELECT1 = 0x40,
+    C53_SELECT2 = 0x80,
+    C53_LATCH = 0x00,
+    C53_LOW = 0x10,   /* the low byte is written and read; the high byte of a written count is 00 */
+    C53_HIGH = 0x20,  /* the high byte is; the low byte of a written count is 00 */
+    C53_BOTH = 0x30,  /* low and high in turn, in writes and in reads, each by itself */
+    C53_MODE0 = 0x00, /* interrupt on terminal count */
+    C53_MODE2 = 0x04, /* rate generator */
+    C53_BCD = 0x01
+};
+
+/* A written count of 0 is 65,536, in BCD 10,000. The pulse that loads a count does not count it down.
+ *
+ * Mode 0: a written count is loaded by the next pulse, whatever the gate. Pulses with the gate high count it down, and go on below
+ * 0. The output rises with the pulse that brings the count to 0, and falls with the write that completes a new one; the first of two
+ * bytes stops counting.
+ *
+ * Mode 2: the first count is loaded by the next pulse, whatever the gate; a later one at the next reload. Pulses with the gate high
+ * count down; the output is low while the count is 1, and the next pulse reloads. So does a pulse that finds the gate risen. A pulse
+ * with the gate low holds the count and leaves the output high. */
+
+/* Bits of a gate byte, the others being 0, and of the outputs. */
+enum {
+    C53_GATE0 = 0x01,
+    C53_GATE1 = 0x02,
+    C53_GATE2 = 0x04,
+    C53_GATES_HIGH = 0x07,
+    C53_OUT0 = 0x01,
+    C53_OUT1 = 0x02,
+    C53_OUT2 = 0x04
+};
+
+/* A counter: each field with what an accepted record has in it. A mark is 0 or 1; a count is a number, in BCD too: 0 to 65,535, and
+ * with bcd 1 to 9,999. */
+typedef struct {
+    uint8_t mode;     /* 0 or 2 */
+    uint8_t bcd;      /* mark: it counts in BCD */
+    uint8_t format;   /* 1 low byte, 2 high byte, 3 both */
+    uint8_t output;   /* 0 or 1: the output's level */
+    uint8_t gate;     /* 0 or 1: the gate's level at the last pulse */
+    uint8_t loaded;   /* mark: a count was loaded since the control word, and is in reload */
+    uint8_t waits;    /* mark: a whole count is written and waits for its load, in waiting */
+    uint8_t first;    /* mark: the first of two bytes is written, and is in low */
+    uint8_t low;      /* any byte */
+    uint8_t high;     /* mark: of both bytes the high one is read next */
+    uint8_t latched;  /* mark: a count is latched, and is in latch */
+    uint16_t count;   /* the count as it stands */
+    uint16_t reload;  /* the count loaded last */
+    uint16_t waiting; /* the count that waits; 0 where none does, as the calls leave it */
+    uint16_t latch;   /* the latched count; 0 once it is read, as the calls leave it */
+} c53_counter;
+
+/* The 82C53. */
+typedef struct {
+    c53_counter counter0;
+    c53_counter counter1;
+    c53_counter counter2;
+} c53_interval;
+
+/* A board that has both chips, the 82C53 clocked once a machine cycle. */
+typedef struct {
+    c51_device device;
+    c53_interval interval;
+} c51_board;
+
+/* As for the device record. */
+typedef char c53_interval_layout[sizeof(c53_interval) == 60 && offsetof(c53_counter, latch) == 18 ? 1 : -1];
+typedef char c51_board_layout[sizeof(c51_board) == 120 && offsetof(c51_board, interval) == 56 ? 1 : -1];
+
+/* Pulses, and a jump of the board: the outputs as they leave them. */
+typedef struct {
+    uint8_t code;
+    uint8_t outputs;
+} c53_outputs_answer;
+
+/* A cycle of the board: the output line and the outputs as it leaves them. */
+typedef struct {
+    uint8_t code;
+    uint8_t line;
+    uint8_t outputs;
+} c51_board_answer;
+
+/* ---------------------------------------------------------------- calls of the 82C53; a pointer is as for the calls in place */
+
+/* The 82C53 after reset: each counter as a control word for mode 0, binary, both leaves it, the gates taken as low. Never refused. */
+c53_interval c53_reset(void);
+
+/* Writes a byte of a count, or the control word. Refusals: 1, 12, 11, 13. After a refused high byte the low byte stands, and the
+ * high byte is still due. */
+uint8_t c53_write(c53_interval *interval, uint8_t address, uint8_t byte);
+
+/* Reads a byte of a count, which alters which byte is next and frees a latch. Refusals: 1, 12. */
+c51_value_answer c53_read(c53_interval *interval, uint8_t address);
+
+/* One pulse, with a gate byte. Refusals: 1, 4. */
+c53_outputs_answer c53_pulse(c53_interval *interval, uint8_t gates);
+
+/* n pulses, 0 to C51_MAX_CYCLES, with one gate byte. The cost does not depend on n. Refusals: 1, 4, 5. */
+c53_outputs_answer c53_jump(c53_interval *interval, uint8_t gates, uint64_t n);
+
+/* The outputs of the 82C53 as it stands; of a record that is not accepted, the low bit of each output. Never refused. */
+uint8_t c53_outputs(c53_interval interval);
+
+/* 1 where the record is accepted, 0 where every call but reset and outputs refuses it by 1. */
+uint8_t c53_accepts(c53_interval interval);
+
+/* ---------------------------------------------------------------- calls of the board; a pointer is as for the calls in place
+ * A refusal leaves both chips as they were. Power-down of the chip stops neither the pulses nor the calls of the 82C53. Every other
+ * call of either chip is made on its record in the board. */
+
+/* One machine cycle and one pulse. Refusals: 1 for either record, 4 for the pin byte or the gate byte. */
+c51_board_answer c51_board_cycle(c51_board *board, uint8_t pins, uint8_t gates);
+
+/* n of them, 0 to C51_MAX_CYCLES, with one pin byte and one gate byte. It costs as c51_jump does. Refusals: 1 and 4 as above, 5. */
+c53_outputs_answer c51_board_jump(c51_board *board, uint8_t pins, uint8_t gates, uint64_t n);
 
 #ifdef __cplusplus
 }

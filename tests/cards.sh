@@ -1,6 +1,6 @@
 #!/bin/sh
-# The fixed call scripts: a script of every form of a line, the cards that are run and not proved, and the examples.
-# Each through dist/replay gives the answers that stand beside it; document 01 states those of the cards.
+# The fixed call scripts: a script of every form of a line, cards that are run, and the examples. Each through dist/replay
+# gives the answers that stand beside it; documents 01 and 02 state those of the cards.
 cd "$(dirname "$0")/.." || exit 1
 . tests/replay.sh
 

@@ -4,7 +4,8 @@
 # and up. Only a call that is out of reach is shortened (rust/compare/src/reach.rs); all else is as generated. Without
 # arguments it is the fixed run. tests/stage has the model's stage: the N for which requests One to N have landed.
 cd "$(dirname "$0")/.." || exit 1
-least_calls=300000
+least_calls=340000
+least_board_calls=50000
 stage=$(cat tests/stage) || exit 1
 for number in "$@"; do
     case $number in
@@ -25,6 +26,7 @@ reach=rust/target/release/reach
 styles=$(sh model/styles.sh "$stage")
 [ -n "$styles" ] || { echo 'compare: the model names no styles'; exit 1; }
 calls=0
+board_calls=0
 shortened=0
 compared=0
 
@@ -42,7 +44,7 @@ damage() {
 }
 
 # same NAME SCRIPT: the script within reach gets the same answers from both. The calls are its lines but faults, dumps
-# and set records.
+# and set records; those of the 82C53 and of the board begin with V.
 same() {
     if ! "$reach" <"$2" >"$work/script"; then
         fault "$1" 'reach fails'
@@ -53,8 +55,10 @@ same() {
     elif answered "$1" "$work/script" "$work/model"; then
         compared=$((compared + lines))
         shortened=$((shortened + $(diff "$2" "$work/script" | grep -c '^<')))
-        calls=$((calls + $(awk 'NR == FNR { fault[FNR] = /^\?/; next } !fault[FNR] && !/^[DS]/ { n++ } END { print n + 0 }' \
-            "$work/model" "$work/script")))
+        counted=$(awk 'NR == FNR { fault[FNR] = /^\?/; next } !fault[FNR] && !/^[DS]/ { n++; v += /^V/ } END { print n + 0, v + 0 }' \
+            "$work/model" "$work/script")
+        calls=$((calls + ${counted% *}))
+        board_calls=$((board_calls + ${counted#* }))
         return
     fi
     cp "$work/script" "target/differs.$bad.txt"
@@ -78,6 +82,8 @@ for style in $styles; do
     done
 done
 
-printf '%s calls compared, %s of them shortened, in %s lines, seeds from %s\n' "$calls" "$shortened" "$compared" "$first"
+printf '%s calls compared, %s of them of the 82C53 or the board, %s shortened, in %s lines, seeds from %s\n' \
+    "$calls" "$board_calls" "$shortened" "$compared" "$first"
 [ $# -gt 0 ] || [ "$calls" -ge "$least_calls" ] || fault compare "fewer than $least_calls calls"
+[ $# -gt 0 ] || [ "$board_calls" -ge "$least_board_calls" ] || fault compare "fewer than $least_board_calls calls of the board"
 verdict

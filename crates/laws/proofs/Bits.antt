@@ -74,6 +74,9 @@ low1 x = and-mask x 1
 pub low2 : (x : ℕ) → bitAnd x 3 ≡ x % 4
 low2 x = and-mask x 2
 
+pub low3 : (x : ℕ) → bitAnd x 7 ≡ x % 8
+low3 x = and-mask x 3
+
 pub low4 : (x : ℕ) → bitAnd x 15 ≡ x % 16
 low4 x = and-mask x 4
 
@@ -86,7 +89,7 @@ low8 x = and-mask x 8
 pub low24 : (x : ℕ) → bitAnd x 0xffffff ≡ x % 0x1000000
 low24 x = and-mask x 24
 
-pub ruleset bits = (low1, low2, low4, low5, low8, low24, div-one)
+pub ruleset bits = (low1, low2, low3, low4, low5, low8, low24, div-one)
 
 -- ---- bits and fields after setBit, clearBit, putBit, at any place: a number is the digits above bit k, bit k, and
 -- the k below it

@@ -32,7 +32,7 @@ module _ (d : Device) (down : poweredDown (d .pcon) ≡ true) where
   unfolding cycleOf
   cycle-down pins = rw down
 
-  cycles-stay : (n pins : ℕ) → cycles n pins d ≡ d
+  pub cycles-stay : (n pins : ℕ) → cycles n pins d ≡ d
   unfolding cycles
   cycles-stay zero pins = refl
   cycles-stay (suc n) pins = ap (cycles n pins) (cycle-down pins) ∙ cycles-stay n pins

@@ -43,7 +43,7 @@ chained (then {cs = cs} {p = p} k r) =
     ∙ ap (λ (q : Played). ran (q .reply ∷ run cs (q .device) .replies) (run cs (q .device) .device)) (kept-played k)
 
 -- each call on any device
-kept-of : (c : Call) (d : Device) → Kept c d (play c d)
+pub kept-of : (c : Call) (d : Device) → Kept c d (play c d)
 unfolding play
 kept-of (Call.reset kind) d = Kept.reset refl
 kept-of (Call.read a) d = Kept.read (refl, refl)

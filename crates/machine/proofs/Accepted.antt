@@ -7,7 +7,7 @@ use Prim.Native.Nat.{ℕ, _<_, _≤_}
 use native.Mathlib.Omega.{arith}
 use lib.Dec.{eqb, leb, ltb, lit<}
 use lib.Bits.{bitAnd, and-zero-l, and-le-r}
-use borrow.Author.Tests.{ltb-true, leb-true, eqb-true, eq-eqb}
+use borrow.Author.Tests.{ltb-true, leb-true, le-leb, eqb-true, eq-eqb}
 use Rattle.machine.specs.declared.Device.{Device}
 use Rattle.machine.specs.Registers.{Row, table, implementedIn, implemented, within}
 use Rattle.machine.specs.Record.{Register, registers, registersOk, Hidden, hiddenFields, hiddenOk, levelsOk, kindOk, accepted}
@@ -58,11 +58,15 @@ pub data Each {A : Type 0} (P : A → Type 0) : List A → Type 0 where
 abbrev pub Most : Hidden → Type 0
 Most h = h .value ≤ h .most
 
-hidden-each : (hs : List Hidden) → hiddenOk hs ≡ true → Each Most hs
+pub hidden-each : (hs : List Hidden) → hiddenOk hs ≡ true → Each Most hs
 hidden-each [] e = done
 hidden-each (h ∷ hs) e =
     let s = and-two (leb (h .value) (h .most)) (hiddenOk hs) e in
     leb-true _ _ (s .0) & hidden-each hs (s .1)
+
+pub hidden-every : (hs : List Hidden) → Each Most hs → hiddenOk hs ≡ true
+hidden-every [] done = refl
+hidden-every (h ∷ hs) (p & q) = rw (le-leb _ _ p) (hidden-every hs q)
 
 module _ (d : Device) (ok : accepted d ≡ true) where
   pub kind-ok : kindOk (d .kind) ≡ true

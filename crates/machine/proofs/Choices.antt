@@ -1,10 +1,12 @@
 -- A choice by a test: what a function makes of it, and what holds of it. Tests joined by `and`, `or` and `not`, taken
 -- apart and put together.
-use mathlib.Core.Path.{_≡_, refl}
-use mathlib.Core.Bool.{Bool, true, false, cond, _&&_, _||_, not}
-use Prim.Native.Nat.{ℕ}
+use mathlib.Core.Path.{_≡_, refl, sym, _∙_}
+use mathlib.Core.Bool.{Bool, true, false, cond, _&&_, _||_, not, and-true, and-assoc}
+use mathlib.Core.List.{List, [], _∷_, _++_}
+use Prim.Native.Nat.{ℕ, suc}
 use native.Mathlib.Omega.{arith}
 use lib.Dec.{eqb}
+use lib.ListN.{take, drop}
 use borrow.Author.Tests.{eqb-true, not-false}
 
 -- a choice has what both have
@@ -65,3 +67,23 @@ or-neither a b p q = simp (p, q)
 -- a number that differs from 0 in no test is 0
 pub not-differs : (n : ℕ) → not (eqb n 0) ≡ false → n ≡ 0
 not-differs n e = eqb-true n 0 (not-false (eqb n 0) e)
+
+-- A row of tests, by induction on it
+
+-- from the left, as the code joins them
+abbrev leftly : Bool → List Bool → Bool
+leftly b [] = b
+leftly b (x ∷ xs) = leftly (b && x) xs
+
+-- from the right, as the definitions do
+abbrev rightly : List Bool → Bool
+rightly [] = true
+rightly (x ∷ xs) = x && rightly xs
+
+pub joined : (b : Bool) (xs : List Bool) → leftly b xs ≡ (b && rightly xs)
+joined b [] = sym (and-true b)
+joined b (x ∷ xs) = joined (b && x) xs ∙ and-assoc b x (rightly xs)
+
+-- a row without its k-th element
+abbrev pub without : {A : Type 0} → ℕ → List A → List A
+without k xs = take k xs ++ drop (suc k) xs

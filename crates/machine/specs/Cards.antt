@@ -2,7 +2,7 @@
 -- one table with one proof. Each row is a list of calls from reset, run through the plain machine. From reset, pins high.
 use Prim.Native.Nat.{ℕ}
 use mathlib.Core.Path.{_≡_, refl}
-use mathlib.Core.Bool.{Bool, true, false, cond, _&&_}
+use mathlib.Core.Bool.{Bool, true, cond, _&&_}
 use mathlib.Core.List.{List, [], _∷_, _++_, map}
 use lib.Dec.{eqb}
 use Rattle.machine.specs.declared.Device.{Device}
@@ -16,9 +16,10 @@ use Rattle.machine.specs.Interrupts.{external, either, seenOf, firstOf, 
 use Rattle.machine.specs.Flags.{flags, anyRises}
 use Rattle.machine.specs.Cycle.{falls, counted, externals, timersAfter, timer2After, ticksIn, steps as stepsOf, cycleOf, cycles}
 use Rattle.machine.specs.Calls.{resetAnswer, valueIn, registerAt, readAnswer, stored, writeAnswer, cycleAnswer, cyclesFault, jumpAnswer, entryFault, firstBad, traceFault, traceCycles, traceAnswer, firstCycle, lookAnswer, wakeAnswer, offerOf, offerAnswer, takeOf, takeAnswer, returnAnswer}
-use Rattle.machine.specs.Lists.{Call, Value, Reply, Ran, nothing, number, says, play, run, machine}
+use Rattle.machine.specs.Lists.{Call, Reply, Ran, nothing, number, says, play, run, machine}
 use Rattle.machine.specs.Lists.Call.{reset, read, write, cycle, jump, trace, look, offer, take, return, wake}
-use Rattle.machine.specs.Lists.Value.{numbers, none}
+use Rattle.machine.specs.Lists.Value.{none}
+use Rattle.machine.specs.Replies.{sameNumbers, sameValue, sameReply, sameReplies}
 
 -- a row: the card's number, the kind, the calls, and what has to hold of the run. Cards 1 to 10 are numbered by their place in document
 -- 01, 11 to 16 are those of request One, 17 to 21 of request Two
@@ -27,27 +28,6 @@ pub record Row : Type 0 where
   pub kind : ℕ
   pub calls : List Call
   pub test : Ran → Bool
-
-sameNumbers : List ℕ → List ℕ → Bool
-sameNumbers [] [] = true
-sameNumbers [] (b ∷ bs) = false
-sameNumbers (a ∷ more) [] = false
-sameNumbers (a ∷ more) (b ∷ bs) = eqb a b && sameNumbers more bs
-
-sameValue : Value → Value → Bool
-sameValue (numbers ms) (numbers ns) = sameNumbers ms ns
-sameValue (numbers ms) none = false
-sameValue none (numbers ns) = false
-sameValue none none = true
-
-sameReply : Reply → Reply → Bool
-sameReply a b = eqb (a .code) (b .code) && sameValue (a .value) (b .value)
-
-sameReplies : List Reply → List Reply → Bool
-sameReplies [] [] = true
-sameReplies [] (b ∷ bs) = false
-sameReplies (a ∷ more) [] = false
-sameReplies (a ∷ more) (b ∷ bs) = sameReply a b && sameReplies more bs
 
 -- a call and the reply that the card gives it
 record Asked : Type 0 where

@@ -12,5 +12,6 @@ pub mod Cycle
 pub mod Rollovers
 pub mod Calls
 pub mod Lists
+pub mod Replies
 pub mod Sleep
 pub mod Cards

@@ -19,3 +19,11 @@ pub const NOTHING_IN_SERVICE: u8 = 7;
 pub const EMPTY_ENTRY: u8 = 8;
 
 pub const POWERED_DOWN: u8 = 10;
+
+// Of the 82C53 (request Three): a mode other than 0 and 2; counter choice 3, an address above 3 or a read at 3; a BCD digit above nine or a
+// mode 2 count of 1.
+pub const BAD_MODE: u8 = 11;
+
+pub const BAD_CHOICE: u8 = 12;
+
+pub const BAD_COUNT: u8 = 13;

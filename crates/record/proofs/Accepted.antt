@@ -14,11 +14,11 @@ use Rattle.machine.specs.Registers.{PCON, TCON, TMOD, TL0, TL1, TH0, TH1, SCON,
 use Rattle.machine.specs.Record.{registers, hiddenFields, kindOk, accepted, blank, zeros, resetOf, dueMost}
 use Rattle.machine.specs.Calls.{valueIn}
 use Rattle.machine.proofs.Choices.{cond-has, by-test}
-use Rattle.machine.proofs.Accepted.{Each, Most, kind-ok, bits, byte, hidden-most, levels-ok}
+use Rattle.machine.proofs.Accepted.{Each, Most, kind-ok, bits, byte, hidden-every, hidden-most, levels-ok}
 use Rattle.machine.proofs.Accepted.Each.{done, _&_}
 use Rattle.laws.specs.Ranges.{Ranges, Absent}
 use Rattle.laws.proofs.Bits.{lt-within}
-use Rattle.record.proofs.Tests.{registers-every, hidden-every}
+use Rattle.record.proofs.Tests.{registers-every}
 
 -- kind 51 or 52
 kinds : (kind : ℕ) → kindOk kind ≡ true → (kind ≡ 51) ⊎ (kind ≡ 52)

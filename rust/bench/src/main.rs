@@ -1,12 +1,12 @@
-//! The benchmark: single cycles, the idle station, a device at rest and in power-down, a frame, and a thousand tags, next to the plain
-//! model and to other programs.
+//! The benchmark: single cycles, the idle station, a device at rest and in power-down, the 82C53 and the board, a frame, and a thousand
+//! tags, next to the plain model and to other programs.
 use bench::others::{emu8051, s51, Figure};
 use bench::plain::Plain;
 use bench::tight::Idle;
 use bench::timing::{race, seconds, Contender};
-use c51::{address, pcon, pin, raw, Device, MAX_CYCLES, PINS_HIGH};
-use compare::record::to_model;
-use station::chip::{Chip, CYCLES_A_SECOND};
+use c51::{address, control, pcon, pin, port, raw, Board, Device, Interval, GATES_HIGH, MAX_CYCLES, PINS_HIGH};
+use compare::record::{interval_to_model, to_model};
+use station::chips::{Chips, CYCLES_A_SECOND, PASSES};
 use station::frame::{frame, Stretch, BIT};
 use station::reader::Reader;
 use station::run::{Plan, Station};
@@ -40,6 +40,8 @@ fn main() {
     let per_cycle = idle_station(part);
     at_rest(part);
     power_down(part);
+    interval_timer(part);
+    board(part);
     one_frame(part);
     let s51 = s51();
     let emu8051 = emu8051(&std::env::temp_dir());
@@ -64,8 +66,8 @@ fn lines(contenders: &[Contender], times: &[f64], pieces: u64, unit: (&str, f64)
 
 /// The idle station: 80C52, serial mode 1, Timer 1 in mode 2, TH1 FD, SMOD 0, asleep.
 fn idle() -> Device {
-    let mut device = Reader::<Device>::new().chip;
-    Chip::jump(&mut device, PINS_HIGH, 100);
+    let mut device = Reader::<Board>::new().chips.device;
+    device.jump(PINS_HIGH, 100).expect(PASSES);
     device
 }
 
@@ -137,12 +139,12 @@ fn idle_station(part: u64) -> f64 {
     let mut tight = Idle::of(&device);
     let rounds = tight.jump(cycles);
     let mut jumped = device;
-    Chip::jump(&mut jumped, PINS_HIGH, cycles);
+    jumped.jump(PINS_HIGH, cycles).expect(PASSES);
     assert_eq!(jumped, tight.device(&device), "the loop by hand ends where the library ends");
     let mut contenders = [
         Contender::new("jump in place (c51_jump)", || {
             let mut device = black_box(device);
-            Chip::jump(&mut device, PINS_HIGH, cycles);
+            device.jump(PINS_HIGH, cycles).expect(PASSES);
             black_box(device);
         }),
         Contender::new("plain model, stepping", || {
@@ -180,7 +182,7 @@ const CALLS: u64 = 10_000;
 fn jump(device: Device, n: u64, calls: u64) {
     for _ in 0..calls {
         let mut device = black_box(device);
-        Chip::jump(&mut device, PINS_HIGH, n);
+        device.jump(PINS_HIGH, n).expect(PASSES);
         black_box(device);
     }
 }
@@ -250,8 +252,99 @@ fn power_down(part: u64) {
     }
 }
 
+/// An 82C53 whose three counters count: mode 0, mode 2, and mode 2 in BCD.
+fn counting() -> Interval {
+    let mut interval = Interval::reset();
+    for (address, byte) in [
+        (port::CONTROL, control::SELECT0 | control::HIGH | control::MODE0),
+        (port::CONTROL, control::SELECT1 | control::HIGH | control::MODE2),
+        (port::CONTROL, control::SELECT2 | control::HIGH | control::MODE2 | control::BCD),
+        (port::COUNTER0, 0x90),
+        (port::COUNTER1, 0x80),
+        (port::COUNTER2, 0x70),
+    ] {
+        interval.write(address, byte).expect("a byte that passes");
+    }
+    interval.jump(GATES_HIGH, 100).expect("pulses");
+    interval
+}
+
+/// Jumps of n pulses, one after the other, each of the 82C53 as given.
+fn pulses(interval: Interval, n: u64, calls: u64) {
+    for _ in 0..calls {
+        let mut interval = black_box(interval);
+        black_box(raw::c53_jump(&mut interval, GATES_HIGH, black_box(n)));
+        black_box(interval);
+    }
+}
+
+fn interval_timer(part: u64) {
+    let interval = counting();
+    let timer = interval_to_model(&interval).expect("a record within its ranges");
+    let calls = CALLS / part;
+    let mut contenders = [
+        Contender::new("pulse (c53_pulse)", || {
+            for _ in 0..calls {
+                let mut interval = black_box(interval);
+                black_box(raw::c53_pulse(&mut interval, GATES_HIGH));
+                black_box(interval);
+            }
+        }),
+        Contender::new("pulse, plain model", || {
+            for _ in 0..calls {
+                let mut timer = black_box(timer);
+                black_box(timer.pulse(GATES_HIGH)).expect("a pulse");
+                black_box(timer);
+            }
+        }),
+        Contender::new("jump of 2^40 pulses (c53_jump)", || pulses(interval, MAX_CYCLES, calls)),
+        Contender::new("jump of 1 pulse", || pulses(interval, 1, calls)),
+    ];
+    let times = race(RUNS, &mut contenders);
+    println!("\nAn 82C53 with all three counters counting:");
+    for (pair, times) in contenders.chunks(2).zip(times.chunks(2)) {
+        lines(pair, times, calls, ("ns", 1e9), 1);
+    }
+}
+
+/// Each call of the board against the same of the chip alone.
+fn board(part: u64) {
+    let cycles = 1_000_000 / part;
+    let calls = CALLS / part;
+    let running = Board { device: all_running(), interval: counting() };
+    let rest = Board { device: Device::reset(52).expect("a kind"), interval: counting() };
+    let mut contenders = [
+        Contender::new("board cycle (c51_board_cycle)", || {
+            let mut board = running;
+            for _ in 0..cycles {
+                black_box(raw::c51_board_cycle(&mut board, PINS_HIGH, GATES_HIGH));
+            }
+            black_box(board);
+        }),
+        Contender::new("cycle (c51_cycle)", || {
+            let mut device = running.device;
+            for _ in 0..cycles {
+                black_box(raw::c51_cycle(&mut device, PINS_HIGH));
+            }
+            black_box(device);
+        }),
+        Contender::new("board jump (c51_board_jump)", || {
+            for _ in 0..calls {
+                let mut board = black_box(rest);
+                black_box(raw::c51_board_jump(&mut board, PINS_HIGH, GATES_HIGH, MAX_CYCLES));
+                black_box(board);
+            }
+        }),
+        Contender::new("jump (c51_jump)", || jump(rest.device, MAX_CYCLES, calls)),
+    ];
+    let times = race(RUNS, &mut contenders);
+    println!("\nA board with such an 82C53 beside all timers running, and beside a device at rest, over 2^40 cycles:");
+    lines(&contenders[..2], &times[..2], cycles, ("ns", 1e9), 1);
+    lines(&contenders[2..], &times[2..], calls, ("ns", 1e9), 1);
+}
+
 /// Frames one after the other, each read by interrupt.
-fn read_frames<C: Chip>(frames: u64) {
+fn read_frames<C: Chips>(frames: u64) {
     let mut reader: Reader<C> = Reader::new();
     reader.hold(Stretch { rxd: 1, cycles: BIT });
     for number in 0..frames {
@@ -263,7 +356,7 @@ fn read_frames<C: Chip>(frames: u64) {
 fn one_frame(part: u64) {
     let frames = 1000 / part;
     let mut contenders = [
-        Contender::new("library", || read_frames::<Device>(frames)),
+        Contender::new("library", || read_frames::<Board>(frames)),
         Contender::new("plain model", || read_frames::<Plain>(frames)),
     ];
     let times = race(RUNS, &mut contenders);
@@ -281,10 +374,13 @@ fn others(s51: &Figure, emu8051: &Figure, per_cycle: f64) {
     }
 }
 
+/// A station without an 82C53.
+const STATION: usize = 3;
+
 /// The time of `tags` tags at one station.
-fn read_tags<C: Chip>(gap: u64, tags: u64) -> f64 {
-    let plan = Plan { stations: 1, tags, gap, seed: 1, noise: 1, chosen: Vec::new() };
-    let mut station: Station<C> = Station::new(1, plan.seed);
+fn read_tags<C: Chips>(gap: u64, tags: u64) -> f64 {
+    let plan = Plan { stations: STATION, tags, gap, seed: 1, noise: 1, chosen: Vec::new() };
+    let mut station: Station<C> = Station::new(STATION, plan.seed);
     seconds(|| {
         for _ in 0..tags {
             assert!(station.read_tag(&plan, None).right(), "a tag as sent");
@@ -300,7 +396,7 @@ fn thousand_tags(part: u64, per_cycle: f64, s51: &Figure, emu8051: &Figure) {
 
     let budget = 4.0 / part as f64;
     let counts = GAPS.map(|gap| ((budget / (2.0 * per_cycle * (gap * CYCLES_A_SECOND) as f64)) as u64).clamp(1, TAGS));
-    let library = [0, 1].map(|i| read_tags::<Device>(GAPS[i] * CYCLES_A_SECOND, counts[i]) * TAGS as f64 / counts[i] as f64);
+    let library = [0, 1].map(|i| read_tags::<Board>(GAPS[i] * CYCLES_A_SECOND, counts[i]) * TAGS as f64 / counts[i] as f64);
     row("library", library, &format!("measured on {} and {} tags", counts[0], counts[1]));
 
     let tags = (20 / part).max(2);

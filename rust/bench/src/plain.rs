@@ -1,14 +1,16 @@
-//! The model by other hands as a station's chip. It steps cycle by cycle; what a wake look has stepped, the jump after it takes over, so
+//! The model by other hands as a station's chips. It steps cycle by cycle; what a wake look has stepped, the jump after it takes over, so
 //! that every cycle is stepped once.
 use c51::Device;
+use c51model::interval::Interval;
 use c51model::model;
 use compare::record::of_model;
 use compare::STAGE;
-use station::chip::{Chip, PASSES};
+use station::chips::{Chips, PASSES};
 use std::cell::Cell;
 
 pub struct Plain {
     device: model::Device,
+    timer: Interval,
     /// Where the last wake look came to: pins, cycles, and the device there.
     ahead: Cell<Option<(u8, u64, model::Device)>>,
 }
@@ -23,10 +25,10 @@ fn is_offered(device: &model::Device) -> bool {
     device.polled & device.ie != 0 && device.offer().expect(PASSES).is_some()
 }
 
-impl Chip for Plain {
+impl Chips for Plain {
     fn reset() -> Plain {
         model::set_stage(STAGE);
-        Plain { device: model::Device::reset(52).0, ahead: Cell::new(None) }
+        Plain { device: model::Device::reset(52).0, timer: Interval::reset(), ahead: Cell::new(None) }
     }
 
     fn read(&self, address: u8) -> u8 {
@@ -75,5 +77,27 @@ impl Chip for Plain {
 
     fn record(&self) -> Device {
         of_model(&self.device)
+    }
+
+    fn board_cycle(&mut self, pins: u8, gates: u8) -> u8 {
+        self.timer.pulse(gates).expect(PASSES);
+        self.cycle(pins)
+    }
+
+    fn board_jump(&mut self, pins: u8, gates: u8, n: u64) {
+        self.timer.pulses(gates, n).expect(PASSES);
+        self.jump(pins, n);
+    }
+
+    fn read_interval(&mut self, address: u8) -> u8 {
+        self.timer.read(address).expect(PASSES)
+    }
+
+    fn write_interval(&mut self, address: u8, byte: u8) {
+        self.timer.write(address, byte).expect(PASSES)
+    }
+
+    fn outputs(&self) -> u8 {
+        self.timer.outputs()
     }
 }

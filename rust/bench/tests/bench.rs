@@ -1,14 +1,15 @@
 //! The benchmark measures what it says: the loop by hand and the plain chip do the library's work, and a missing program stops nothing.
 use bench::plain::Plain;
 use bench::tight::Idle;
-use c51::{flag, pcon, Device, MAX_CYCLES, PINS_HIGH};
+use c51::{flag, pcon, Board, MAX_CYCLES, PINS_HIGH};
 use station::reader::Reader;
 use station::run::{run, Plan};
+use station::timing::Time;
 use std::process::Command;
 
 #[test]
 fn the_loop_by_hand_is_the_idle_station() {
-    let mut before = Reader::<Device>::new().chip;
+    let mut before = Reader::<Board>::new().chips.device;
     before.jump(PINS_HIGH, 10).unwrap();
     for n in (0..200).chain([12_345]) {
         let mut device = before;
@@ -23,17 +24,20 @@ fn the_loop_by_hand_is_the_idle_station() {
 /// What the looks over the idle station are timed on: TF1 is up, Timer 1 alone reloads, and no interrupt comes.
 #[test]
 fn looks_over_the_idle_station_find_nothing() {
-    let mut device = Reader::<Device>::new().chip;
+    let mut device = Reader::<Board>::new().chips.device;
     device.jump(PINS_HIGH, 100).unwrap();
     assert_eq!((device.pcon & pcon::IDL, device.timers.tcon & flag::TF1), (pcon::IDL, flag::TF1));
     assert_eq!(device.look_ahead(PINS_HIGH, MAX_CYCLES), Ok(None));
     assert_eq!(device.wake_look(PINS_HIGH, MAX_CYCLES), Ok(None));
 }
 
+/// Also at the stations that have an 82C53, whose times are the same.
 #[test]
-fn the_plain_chip_reads_the_same_tags() {
-    let plan = Plan { stations: 2, tags: 4, gap: 5_000, seed: 8, noise: 1, chosen: Vec::new() };
-    assert_eq!(run::<Plain>(&plan, false, |_| ()).0, run::<Device>(&plan, false, |_| ()).0);
+fn the_plain_chips_read_the_same_tags() {
+    let plan = Plan { stations: 3, tags: 6, gap: 5_000, seed: 8, noise: 1, chosen: Vec::new() };
+    let (rows, _) = run::<Board>(&plan, None, |_| ());
+    assert_eq!(run::<Plain>(&plan, None, |_| ()).0, rows);
+    assert_eq!(rows.iter().filter(|row| matches!(row.time, Some(Time::Took(_)))).count(), 4);
 }
 
 #[test]
@@ -51,6 +55,12 @@ fn missing_programs_are_named_and_left_out() {
         "A device in power-down, with all timers set to run, over 2^40 cycles (the trace run over 16 entries):\n  jump, power-down ",
         "x look ahead, at rest\n  wake look, power-down ",
         "x wake look, at rest\n  trace run, power-down ",
+        "An 82C53 with all three counters counting:\n  pulse (c53_pulse) ",
+        "x pulse, plain model\n  jump of 2^40 pulses (c53_jump) ",
+        "x jump of 1 pulse\n",
+        "over 2^40 cycles:\n  board cycle (c51_board_cycle) ",
+        "x cycle (c51_cycle)\n  board jump (c51_board_jump) ",
+        "x jump (c51_jump)\n",
         "A frame of 960 cycles",
         "Run time for 1000 tags",
     ] {

@@ -1,7 +1,8 @@
-//! The proved peripherals of the 80C51 and 80C52 for Rust: a thin wrapper over the C library.
+//! The proved peripherals of the 80C51 and 80C52, and the 82C53 beside the chip, for Rust: a thin wrapper over the C library.
 //!
 //! A [`Device`] is the plain record of `c51.h`, with public fields. Any content is answered: a record that is no
-//! device's is refused as [`Refusal::BadRecord`]. A refused call leaves the device as it was.
+//! device's is refused as [`Refusal::BadRecord`]. A refused call leaves the device as it was. The same goes for an
+//! [`Interval`], which is the 82C53, and for a [`Board`], which has both chips.
 //!
 //! ```
 //! use c51::{address, Device, PINS_HIGH};
@@ -18,14 +19,19 @@
 //! # Ok::<(), c51::Refusal>(())
 //! ```
 
+mod board;
+mod interval;
 pub mod raw;
 
 pub use raw::{AnswerRow, CallRow, ANSWER_WORDS, CALL_WORDS, NONE};
+pub use raw::{Board, Counter, Interval};
 pub use raw::{Device, Interrupts, Receiver, Sender, Serial, Timer2, Timers};
 
 /// All pins at 1.
 pub const PINS_HIGH: u8 = 0x7F;
-/// The longest jump, look ahead and wake look.
+/// All gates at 1.
+pub const GATES_HIGH: u8 = 0x07;
+/// The longest jump, look ahead and wake look, in cycles or pulses.
 pub const MAX_CYCLES: u64 = 1 << 40;
 /// The entries of the longest trace.
 pub const MAX_TRACE: usize = 65_536;
@@ -82,6 +88,43 @@ pub mod flag {
     pub const EXF2: u8 = 0x40;
 }
 
+/// Addresses of the 82C53: the bytes of a counter's count, and the control word.
+pub mod port {
+    pub const COUNTER0: u8 = 0;
+    pub const COUNTER1: u8 = 1;
+    pub const COUNTER2: u8 = 2;
+    pub const CONTROL: u8 = 3;
+}
+
+/// The control word of the 82C53: a counter; low byte, high byte or both; a mode; and BCD or nothing, for binary. The latch command is
+/// a counter alone.
+pub mod control {
+    pub const SELECT0: u8 = 0x00;
+    pub const SELECT1: u8 = 0x40;
+    pub const SELECT2: u8 = 0x80;
+    pub const LATCH: u8 = 0x00;
+    pub const LOW: u8 = 0x10;
+    pub const HIGH: u8 = 0x20;
+    pub const BOTH: u8 = 0x30;
+    pub const MODE0: u8 = 0x00;
+    pub const MODE2: u8 = 0x04;
+    pub const BCD: u8 = 0x01;
+}
+
+/// Bits of the gate byte.
+pub mod gate {
+    pub const GATE0: u8 = 0x01;
+    pub const GATE1: u8 = 0x02;
+    pub const GATE2: u8 = 0x04;
+}
+
+/// Bits of the outputs.
+pub mod out {
+    pub const OUT0: u8 = 0x01;
+    pub const OUT1: u8 = 0x02;
+    pub const OUT2: u8 = 0x04;
+}
+
 /// Numbers of the calls in a list; every other number is a return.
 pub mod call {
     pub const RESET: u64 = 0;
@@ -111,11 +154,14 @@ pub enum Refusal {
     NothingInService = 7,
     EmptyEntry = 8,
     PoweredDown = 10,
+    BadMode = 11,
+    BadChoice = 12,
+    BadCount = 13,
 }
 
 impl Refusal {
     /// Every refusal, in the order of the codes.
-    pub const ALL: [Refusal; 9] = [
+    pub const ALL: [Refusal; 12] = [
         Refusal::BadRecord,
         Refusal::BadKind,
         Refusal::BadAddress,
@@ -125,6 +171,9 @@ impl Refusal {
         Refusal::NothingInService,
         Refusal::EmptyEntry,
         Refusal::PoweredDown,
+        Refusal::BadMode,
+        Refusal::BadChoice,
+        Refusal::BadCount,
     ];
 
     /// The library's code.
@@ -144,12 +193,15 @@ impl std::fmt::Display for Refusal {
             Refusal::BadRecord => "a field of the record is outside its range or mask",
             Refusal::BadKind => "the kind is neither 51 nor 52",
             Refusal::BadAddress => "this kind has no register at the address",
-            Refusal::BadPins => "bit 7 of the pin byte is set",
-            Refusal::TooLong => "more than 2^40 cycles, or more than 65,536 trace entries",
+            Refusal::BadPins => "bit 7 of the pin byte is set, or the gate byte is above 7",
+            Refusal::TooLong => "more than 2^40 cycles or pulses, or more than 65,536 trace entries",
             Refusal::NothingOffered => "no interrupt is offered",
             Refusal::NothingInService => "no interrupt is in service",
             Refusal::EmptyEntry => "a trace entry has no cycles",
             Refusal::PoweredDown => "write, take or return in power-down",
+            Refusal::BadMode => "the control word has another mode than 0 and 2",
+            Refusal::BadChoice => "counter choice 3, an address of the 82C53 above 3, or a read at 3",
+            Refusal::BadCount => "a BCD digit above nine, or a mode 2 count of 1",
         })
     }
 }

@@ -1,4 +1,4 @@
-//! The library as `c51.h` has it: the record field by field, the answers, the rows of a list, and the functions.
+//! The library as `c51.h` has it: the records field by field, the answers, the rows of a list, and the functions.
 //!
 //! The functions are safe to call with any content of the record: each is proved for all inputs, and none keeps a
 //! reference.
@@ -86,6 +86,44 @@ pub struct Device {
     pub cycle: u64,
 }
 
+/// A counter of the 82C53. A count is a number, in BCD too.
+#[repr(C)]
+#[derive(Clone, Copy, PartialEq, Eq, Debug, Default)]
+pub struct Counter {
+    pub mode: u8,
+    pub bcd: u8,
+    pub format: u8,
+    pub output: u8,
+    pub gate: u8,
+    pub loaded: u8,
+    pub waits: u8,
+    pub first: u8,
+    pub low: u8,
+    pub high: u8,
+    pub latched: u8,
+    pub count: u16,
+    pub reload: u16,
+    pub waiting: u16,
+    pub latch: u16,
+}
+
+/// The 82C53. The default is the record of zeros, which is no 82C53: it has no format.
+#[repr(C)]
+#[derive(Clone, Copy, PartialEq, Eq, Debug, Default)]
+pub struct Interval {
+    pub counter0: Counter,
+    pub counter1: Counter,
+    pub counter2: Counter,
+}
+
+/// A board that has both chips. The default is the record of zeros.
+#[repr(C)]
+#[derive(Clone, Copy, PartialEq, Eq, Debug, Default)]
+pub struct Board {
+    pub device: Device,
+    pub interval: Interval,
+}
+
 /// A reset.
 #[repr(C)]
 #[derive(Clone, Copy, PartialEq, Eq, Debug)]
@@ -110,7 +148,7 @@ pub struct VectorAnswer {
     pub vector: u8,
 }
 
-/// A read.
+/// A read, of the chip and of the 82C53.
 #[repr(C)]
 #[derive(Clone, Copy, PartialEq, Eq, Debug)]
 pub struct ValueAnswer {
@@ -134,6 +172,23 @@ pub struct LookAnswer {
     pub code: u8,
     pub found: u8,
     pub at: u64,
+}
+
+/// Pulses of the 82C53, and a jump of the board.
+#[repr(C)]
+#[derive(Clone, Copy, PartialEq, Eq, Debug)]
+pub struct OutputsAnswer {
+    pub code: u8,
+    pub outputs: u8,
+}
+
+/// A cycle of the board.
+#[repr(C)]
+#[derive(Clone, Copy, PartialEq, Eq, Debug)]
+pub struct BoardAnswer {
+    pub code: u8,
+    pub line: u8,
+    pub outputs: u8,
 }
 
 /// The words of a call in a list, and of its answer.
@@ -160,6 +215,15 @@ unsafe extern "C" {
     pub safe fn c51_look(device: Device, pins: u8, n: u64) -> LookAnswer;
     pub safe fn c51_wake(device: Device, pins: u8, n: u64) -> LookAnswer;
     pub safe fn c51_accepts(device: Device) -> u8;
+    pub safe fn c53_reset() -> Interval;
+    pub safe fn c53_write(interval: &mut Interval, address: u8, byte: u8) -> u8;
+    pub safe fn c53_read(interval: &mut Interval, address: u8) -> ValueAnswer;
+    pub safe fn c53_pulse(interval: &mut Interval, gates: u8) -> OutputsAnswer;
+    pub safe fn c53_jump(interval: &mut Interval, gates: u8, n: u64) -> OutputsAnswer;
+    pub safe fn c53_outputs(interval: Interval) -> u8;
+    pub safe fn c53_accepts(interval: Interval) -> u8;
+    pub safe fn c51_board_cycle(board: &mut Board, pins: u8, gates: u8) -> BoardAnswer;
+    pub safe fn c51_board_jump(board: &mut Board, pins: u8, gates: u8, n: u64) -> OutputsAnswer;
     fn c51_trace(device: &mut Device, entries: *const u32, count: usize) -> u8;
     fn c51_replay(
         device: &mut Device,

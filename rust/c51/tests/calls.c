@@ -168,9 +168,115 @@ static void lists(void) {
     check(device.kind == 0 && answers[0] == C51_BAD_KIND, "a refused reset leaves zeros");
 }
 
+static int same_counter(const c53_counter *a, const c53_counter *b) {
+    return a->mode == b->mode && a->bcd == b->bcd && a->format == b->format && a->output == b->output && a->gate == b->gate &&
+           a->loaded == b->loaded && a->waits == b->waits && a->first == b->first && a->low == b->low && a->high == b->high &&
+           a->latched == b->latched && a->count == b->count && a->reload == b->reload && a->waiting == b->waiting &&
+           a->latch == b->latch;
+}
+
+static int same_interval(const c53_interval *a, const c53_interval *b) {
+    return same_counter(&a->counter0, &b->counter0) && same_counter(&a->counter1, &b->counter1) && same_counter(&a->counter2, &b->counter2);
+}
+
+/* Counter 1 in mode 0, both bytes, binary: a count of 0102. Counter 2 in mode 2, low byte, BCD: a count of 3. */
+static void intervals(void) {
+    c53_interval interval = c53_reset(), before;
+    c51_value_answer read;
+    c53_outputs_answer pulse;
+    int i;
+    check(interval.counter0.format == 3 && interval.counter2.format == 3 && c53_outputs(interval) == 0, "reset of the 82C53");
+    check(c53_accepts(interval) == 1, "accepts of the 82C53");
+    check(c53_write(&interval, C53_CONTROL, C53_SELECT1 | C53_BOTH | C53_MODE0) == C51_PASSED, "control word of counter 1");
+    check(c53_write(&interval, C53_CONTROL, C53_SELECT2 | C53_LOW | C53_MODE2 | C53_BCD) == C51_PASSED, "control word of counter 2");
+    check(c53_outputs(interval) == C53_OUT2, "the output is low in mode 0 and high in mode 2");
+    check(c53_write(&interval, C53_COUNTER1, 0x02) == C51_PASSED && c53_write(&interval, C53_COUNTER1, 0x01) == C51_PASSED, "a count");
+    check(c53_write(&interval, C53_COUNTER2, 3) == C51_PASSED, "a count of one byte");
+
+    before = interval;
+    check(c53_write(&interval, C53_CONTROL, 0xC2) == C51_BAD_CHOICE, "counter choice 3, before another mode");
+    check(c53_write(&interval, 4, 0) == C51_BAD_CHOICE, "an address above 3");
+    check(c53_write(&interval, C53_CONTROL, C53_BOTH | 0x02) == C51_BAD_MODE, "another mode");
+    check(c53_write(&interval, C53_COUNTER2, 0x0A) == C51_BAD_COUNT, "a digit above nine");
+    check(c53_write(&interval, C53_COUNTER2, 1) == C51_BAD_COUNT, "a mode 2 count of 1");
+    read = c53_read(&interval, C53_CONTROL);
+    check(read.code == C51_BAD_CHOICE && read.value == 0, "a read at 3");
+    pulse = c53_pulse(&interval, 8);
+    check(pulse.code == C51_BAD_PINS && pulse.outputs == 0, "a pulse refused");
+    check(c53_jump(&interval, 8, C51_MAX_CYCLES + 1).code == C51_BAD_PINS, "a jump of the 82C53 refused, 4 before 5");
+    pulse = c53_jump(&interval, C53_GATES_HIGH, C51_MAX_CYCLES + 1);
+    check(pulse.code == C51_TOO_LONG && pulse.outputs == 0, "a jump of the 82C53 refused");
+    check(same_interval(&interval, &before), "a refused call leaves the 82C53");
+
+    for (i = 1; i <= 9; i++) {
+        pulse = c53_pulse(&interval, C53_GATES_HIGH);
+        check(pulse.code == C51_PASSED && pulse.outputs == (i % 3 == 0 ? 0 : C53_OUT2), "counter 2 is low in one pulse of three");
+    }
+    check(interval.counter1.count == 0x0102 - 8 && interval.counter2.count == 1, "the loading pulse does not count");
+    check(c53_read(&interval, C53_COUNTER1).value == 0xFA, "low byte");
+    check(c53_write(&interval, C53_CONTROL, C53_SELECT1 | C53_LATCH) == C51_PASSED, "latch");
+    check(c53_jump(&interval, C53_GATE1, 0xFA).outputs == (C53_OUT1 | C53_OUT2), "counter 1 ends, counter 2 is held high");
+    check(c53_read(&interval, C53_COUNTER1).value == 0x00 && interval.counter1.latched == 0, "the latched high byte");
+    check(c53_jump(&interval, 0, C51_MAX_CYCLES).outputs == (C53_OUT1 | C53_OUT2), "gates low");
+    check(interval.counter1.count == 0 && interval.counter2.count == 1, "and nothing counts");
+    check(c53_jump(&interval, C53_GATE1, C51_MAX_CYCLES).code == C51_PASSED && interval.counter1.count == 0, "2^24 laps");
+
+    interval.counter2.count = 10000;
+    before = interval;
+    check(c53_accepts(interval) == 0, "a record refused");
+    check(c53_write(&interval, 4, 0) == C51_BAD_RECORD && c53_read(&interval, 3).code == C51_BAD_RECORD, "write and read of it");
+    check(c53_pulse(&interval, 8).code == C51_BAD_RECORD && c53_jump(&interval, 0, 0).code == C51_BAD_RECORD, "pulses of it");
+    check(same_interval(&interval, &before) && c53_outputs(interval) == (C53_OUT1 | C53_OUT2), "and it stays");
+}
+
+/* A refusal leaves both chips, power-down stops one of them, and a jump ends as cycles do. */
+static void boards(void) {
+    c51_board board, before, jumped;
+    c51_board_answer cycle = {0, 0, 0};
+    c53_outputs_answer jump;
+    int i;
+    board.device = c51_reset(52).device;
+    board.interval = c53_reset();
+    check(c51_write(&board.device, C51_TCON, 0x10) == C51_PASSED, "Timer 0 runs");
+    check(c53_write(&board.interval, C53_CONTROL, C53_SELECT0 | C53_LOW | C53_MODE2) == C51_PASSED, "control word on a board");
+    check(c53_write(&board.interval, C53_COUNTER0, 5) == C51_PASSED, "count on a board");
+    before = jumped = board;
+    check(c51_board_cycle(&board, 0x80, 0).code == C51_BAD_PINS, "board cycle refused by its pins");
+    cycle = c51_board_cycle(&board, C51_PINS_HIGH, 8);
+    check(cycle.code == C51_BAD_PINS && cycle.line == 0 && cycle.outputs == 0, "board cycle refused by its gates");
+    check(c51_board_jump(&board, C51_PINS_HIGH, 8, C51_MAX_CYCLES + 1).code == C51_BAD_PINS, "board jump refused, 4 before 5");
+    jump = c51_board_jump(&board, C51_PINS_HIGH, C53_GATES_HIGH, C51_MAX_CYCLES + 1);
+    check(jump.code == C51_TOO_LONG && jump.outputs == 0, "board jump refused");
+    check(same(&board.device, &before.device) && same_interval(&board.interval, &before.interval), "a refusal leaves both chips");
+
+    for (i = 0; i < 1000; i++) cycle = c51_board_cycle(&board, C51_PINS_HIGH, C53_GATES_HIGH);
+    check(cycle.code == C51_PASSED && cycle.line == 1 && cycle.outputs == 0, "cycle 1,000 of the board");
+    jump = c51_board_jump(&jumped, C51_PINS_HIGH, C53_GATES_HIGH, 1000);
+    check(jump.code == C51_PASSED && jump.outputs == 0, "a jump of the board");
+    check(same(&board.device, &jumped.device) && same_interval(&board.interval, &jumped.interval), "and it ends as the cycles do");
+
+    check(c51_write(&board.device, C51_PCON, C51_PCON_PD) == C51_PASSED, "power-down on a board");
+    before = board;
+    cycle = c51_board_cycle(&board, 0, C53_GATES_HIGH);
+    check(cycle.code == C51_PASSED && cycle.line == 1 && cycle.outputs == C53_OUT0, "the 82C53 goes on");
+    check(c51_board_jump(&board, 0, C53_GATES_HIGH, 4).outputs == 0, "by jumps too");
+    check(c53_write(&board.interval, C53_COUNTER0, 9) == C51_PASSED && board.interval.counter0.waiting == 9, "and so do its calls");
+    check(same(&board.device, &before.device), "and the chip stays");
+
+    board.interval.counter1.format = 0;
+    check(c51_board_cycle(&board, 0x80, 8).code == C51_BAD_RECORD, "board cycle of an 82C53 that is refused");
+    check(c51_board_jump(&board, 0, 0, 0).code == C51_BAD_RECORD, "board jump of it");
+    board.interval = c53_reset();
+    board.device.kind = 0;
+    check(c51_board_cycle(&board, 0, 0).code == C51_BAD_RECORD, "board cycle of a device that is refused");
+    check(c51_board_jump(&board, 0x80, 8, 0).code == C51_BAD_RECORD, "board jump of it");
+}
+
 int main(void) {
     calls();
     lists();
+    intervals();
+    boards();
     if (failures == 0) printf("passed\n");
     return failures != 0;
 }

@@ -1,7 +1,7 @@
-//! The layout of the record and of the answers, size and each offset, and the constants: in Rust and in a C program
+//! The layout of the records and of the answers, size and each offset, and the constants: in Rust and in a C program
 //! that includes `c51.h`.
 use c51::raw::*;
-use c51::{address, call, pcon, pin, Refusal, MAX_CYCLES, MAX_TRACE, PINS_HIGH};
+use c51::{address, call, control, gate, out, pcon, pin, port, Refusal, GATES_HIGH, MAX_CYCLES, MAX_TRACE, PINS_HIGH};
 use std::collections::BTreeSet;
 use std::mem::{offset_of, size_of};
 use std::path::{Path, PathBuf};
@@ -53,6 +53,14 @@ fn places() -> Vec<Place> {
         "c51_value_answer" ValueAnswer 2 { code 0, value 1 }
         "c51_offer_answer" OfferAnswer 3 { code 0, offered 1, vector 2 }
         "c51_look_answer" LookAnswer 16 { code 0, found 1, at 8 }
+        "c53_counter" Counter 20 {
+            mode 0, bcd 1, format 2, output 3, gate 4, loaded 5, waits 6, first 7, low 8, high 9, latched 10,
+            count 12, reload 14, waiting 16, latch 18
+        }
+        "c53_interval" Interval 60 { counter0 0, counter1 20, counter2 40, counter2.latch 58 }
+        "c51_board" Board 120 { device 0, device.cycle 48, interval 56, interval.counter2.latch 114 }
+        "c53_outputs_answer" OutputsAnswer 2 { code 0, outputs 1 }
+        "c51_board_answer" BoardAnswer 3 { code 0, line 1, outputs 2 }
     }
 }
 
@@ -74,6 +82,10 @@ fn constants() -> Vec<Constant> {
         "C51_" address { PCON, TCON, TMOD, TL0, TL1, TH0, TH1, SCON, SBUF, IE, IP, T2CON, RCAP2L, RCAP2H, TL2, TH2 }
         "C51_PCON_" pcon { IDL, PD, SMOD }
         "C51_CALL_" call { RESET, READ, WRITE, CYCLE, JUMP, TRACE, LOOK, OFFER, TAKE, RETURN, WAKE }
+        "C53_" port { COUNTER0, COUNTER1, COUNTER2, CONTROL }
+        "C53_" control { SELECT0, SELECT1, SELECT2, LATCH, LOW, HIGH, BOTH, MODE0, MODE2, BCD }
+        "C53_" gate { GATE0, GATE1, GATE2 }
+        "C53_" out { OUT0, OUT1, OUT2 }
     };
     let others = [
         ("C51_PASSED", 0),
@@ -86,9 +98,13 @@ fn constants() -> Vec<Constant> {
         ("C51_NOTHING_IN_SERVICE", Refusal::NothingInService as u64),
         ("C51_EMPTY_ENTRY", Refusal::EmptyEntry as u64),
         ("C51_POWERED_DOWN", Refusal::PoweredDown as u64),
+        ("C51_BAD_MODE", Refusal::BadMode as u64),
+        ("C51_BAD_CHOICE", Refusal::BadChoice as u64),
+        ("C51_BAD_COUNT", Refusal::BadCount as u64),
         ("C51_MAX_CYCLES", MAX_CYCLES),
         ("C51_MAX_TRACE", MAX_TRACE as u64),
         ("C51_PINS_HIGH", PINS_HIGH.into()),
+        ("C53_GATES_HIGH", GATES_HIGH.into()),
         ("C51_CALL_WORDS", CALL_WORDS as u64),
         ("C51_ANSWER_WORDS", ANSWER_WORDS as u64),
         ("C51_NONE", NONE),
@@ -171,7 +187,7 @@ fn the_constants_in_c() {
     }
 }
 
-/// The parts of the record and one byte of padding add up to its size, and the table has as many places in it as it has
+/// The parts of a record and one byte of padding add up to its size, and the table has as many places in it as it has
 /// fields.
 #[test]
 fn the_table_is_whole() {
@@ -180,6 +196,10 @@ fn the_table_is_whole() {
     assert_eq!(bytes + 1, size_of::<Device>(), "one byte of padding before the cycle number");
     let of_device = places().iter().filter(|place| place.c.starts_with("offsetof(c51_device,")).count();
     assert_eq!(of_device, 35, "41 numbers, of which the 7 levels are one array");
+    assert_eq!(11 + 4 * size_of::<u16>() + 1, size_of::<Counter>(), "one byte of padding before the counts");
+    let of_counter = places().iter().filter(|place| place.c.starts_with("offsetof(c53_counter,")).count();
+    assert_eq!(of_counter, 11 + 4, "bytes and counts");
+    assert_eq!(size_of::<Device>() + size_of::<Interval>() + 4, size_of::<Board>(), "four bytes of padding after the 82C53");
 }
 
 #[test]

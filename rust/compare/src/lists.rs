@@ -1,8 +1,10 @@
 //! Fresh random records of any content and random lists of calls, beside those of the model's generator.
 use crate::pair::{Pair, Tally};
 use crate::{entry, STAGE};
-use c51::{address, pcon, Device, Timer2, MAX_CYCLES, PINS_HIGH};
+use c51::{address, control, pcon, port};
+use c51::{Board, Counter, Device, Interval, Timer2, GATES_HIGH, MAX_CYCLES, PINS_HIGH};
 use random::Rng;
+use replay::board::BoardCall;
 use replay::calls::{Call, Request};
 use replay::record::FIELDS;
 use std::path::Path;
@@ -149,6 +151,103 @@ pub fn raw_record(rng: &mut Rng) -> Device {
     }
 }
 
+/// A counter of any content.
+fn any_counter(rng: &mut Rng) -> Counter {
+    Counter {
+        mode: rng.byte(),
+        bcd: rng.byte(),
+        format: rng.byte(),
+        output: rng.byte(),
+        gate: rng.byte(),
+        loaded: rng.byte(),
+        waits: rng.byte(),
+        first: rng.byte(),
+        low: rng.byte(),
+        high: rng.byte(),
+        latched: rng.byte(),
+        count: rng.number() as u16,
+        reload: rng.number() as u16,
+        waiting: rng.number() as u16,
+        latch: rng.number() as u16,
+    }
+}
+
+/// A count, often next to the ends of its range.
+fn some_count(rng: &mut Rng, bcd: u8) -> u16 {
+    let most = if bcd == 1 { 9_999 } else { u16::MAX.into() };
+    let count = match rng.below(4) {
+        0 => rng.below(4),
+        1 => most - rng.below(4),
+        2 => rng.below(50),
+        _ => rng.between(0, most),
+    };
+    count as u16
+}
+
+/// A counter of any content within the ranges: reachable or not, it is accepted.
+fn good_counter(rng: &mut Rng) -> Counter {
+    let wild = any_counter(rng);
+    let bcd = wild.bcd & 1;
+    Counter {
+        mode: wild.mode & 2,
+        bcd,
+        format: 1 + wild.format % 3,
+        output: wild.output & 1,
+        gate: wild.gate & 1,
+        loaded: wild.loaded & 1,
+        waits: wild.waits & 1,
+        first: wild.first & 1,
+        low: wild.low,
+        high: wild.high & 1,
+        latched: wild.latched & 1,
+        count: some_count(rng, bcd),
+        reload: some_count(rng, bcd),
+        waiting: some_count(rng, bcd),
+        latch: some_count(rng, bcd),
+    }
+}
+
+/// A good counter with a field just outside its range, or as another counter has it.
+fn spoilt_counter(rng: &mut Rng) -> Counter {
+    let mut k = good_counter(rng);
+    let wild = any_counter(rng);
+    let mark = rng.pick(&[2, 3, 255, wild.bcd]);
+    let count = rng.pick(&[9_999, 10_000, 65_535, wild.count]);
+    match rng.below(14) {
+        0 => k.mode = rng.pick(&[1, 3, 4, 6, wild.mode]),
+        1 => k.format = rng.pick(&[0, 4, 255, wild.format]),
+        2 => k.bcd = mark,
+        3 => k.output = mark,
+        4 => k.gate = mark,
+        5 => k.loaded = mark,
+        6 => k.waits = mark,
+        7 => k.first = mark,
+        8 => k.high = mark,
+        9 => k.latched = mark,
+        10 => (k.bcd, k.count) = (1, count),
+        11 => (k.bcd, k.reload) = (1, count),
+        12 => (k.bcd, k.waiting) = (1, count),
+        _ => (k.bcd, k.latch) = (1, count),
+    }
+    k
+}
+
+fn good_interval(rng: &mut Rng) -> Interval {
+    Interval { counter0: good_counter(rng), counter1: good_counter(rng), counter2: good_counter(rng) }
+}
+
+/// An 82C53 of any content: half of them accepted.
+pub fn raw_interval(rng: &mut Rng) -> Interval {
+    let good = good_interval(rng);
+    match rng.below(8) {
+        0 => Interval { counter0: any_counter(rng), counter1: any_counter(rng), counter2: any_counter(rng) },
+        1 => Interval { counter0: spoilt_counter(rng), ..good },
+        2 => Interval { counter1: spoilt_counter(rng), ..good },
+        3 => Interval { counter2: spoilt_counter(rng), ..good },
+        _ => good,
+    }
+}
+
 /// A pin byte, sometimes with bit 7 set.
 fn pins(rng: &mut Rng) -> u8 {
     match rng.below(8) {
@@ -238,12 +337,88 @@ fn call(rng: &mut Rng, name: Name, most: u64) -> Call {
     }
 }
 
-/// Runs every call on one raw record.
+/// The names of the calls of the 82C53 and of the board.
+#[derive(Clone, Copy)]
+enum BoardName {
+    Reset,
+    Write,
+    Read,
+    Pulse,
+    Pulses,
+    Cycle,
+    Jump,
+}
+
+const BOARD_NAMES: [BoardName; 7] =
+    [BoardName::Reset, BoardName::Write, BoardName::Read, BoardName::Pulse, BoardName::Pulses, BoardName::Cycle, BoardName::Jump];
+
+/// A gate byte, sometimes above 7.
+fn gates(rng: &mut Rng) -> u8 {
+    match rng.below(16) {
+        0 => rng.byte(),
+        1..=7 => GATES_HIGH,
+        _ => rng.byte() & GATES_HIGH,
+    }
+}
+
+/// A control word, often a latch, sometimes any.
+fn control_word(rng: &mut Rng) -> u8 {
+    let select = rng.pick(&[control::SELECT0, control::SELECT1, control::SELECT2]);
+    match rng.below(8) {
+        0 => rng.byte(),
+        1..=3 => select | control::LATCH | rng.below(16) as u8,
+        _ => {
+            let format = rng.pick(&[control::LOW, control::HIGH, control::BOTH, control::BOTH]);
+            select | format | rng.pick(&[control::MODE0, control::MODE2]) | rng.pick(&[0, control::BCD])
+        }
+    }
+}
+
+/// A byte of a count, small as a rule, so that counts end.
+fn count_byte(rng: &mut Rng) -> u8 {
+    match rng.below(4) {
+        0 => rng.byte(),
+        1 => 0,
+        _ => rng.below(10) as u8,
+    }
+}
+
+/// A number of pulses, sometimes of several laps, or the longest.
+fn pulses(rng: &mut Rng, most: u64) -> u64 {
+    match rng.below(24) {
+        0 => rng.below(200_000),
+        1 => MAX_CYCLES - rng.below(3),
+        _ => cycles(rng, most),
+    }
+}
+
+/// The call of that name with random arguments.
+fn board_call(rng: &mut Rng, name: BoardName, most: u64) -> BoardCall {
+    match name {
+        BoardName::Reset => BoardCall::Reset,
+        BoardName::Write => match rng.below(10) {
+            0 => BoardCall::Write(rng.byte(), rng.byte()),
+            1..=3 => BoardCall::Write(port::CONTROL, control_word(rng)),
+            _ => BoardCall::Write(rng.below(3) as u8, count_byte(rng)),
+        },
+        BoardName::Read if rng.one_in(16) => BoardCall::Read(rng.byte()),
+        BoardName::Read => BoardCall::Read(rng.below(3) as u8),
+        BoardName::Pulse => BoardCall::Pulse(gates(rng)),
+        BoardName::Pulses => BoardCall::Pulses(gates(rng), pulses(rng, most)),
+        BoardName::Cycle => BoardCall::Cycle(pins(rng), gates(rng)),
+        BoardName::Jump => BoardCall::Jump(pins(rng), gates(rng), cycles(rng, most)),
+    }
+}
+
+/// Runs every call on one board of raw records.
 pub fn run_record(rng: &mut Rng) -> Result<Tally, String> {
-    let pair = Pair::of_record(raw_record(rng));
+    let pair = Pair::of_board(Board { device: raw_record(rng), interval: raw_interval(rng) });
     let mut tally = Tally::default();
     for name in NAMES {
         tally += pair.clone().run([Request::Call(call(rng, name, 8))])?;
+    }
+    for name in BOARD_NAMES {
+        tally += pair.clone().run([Request::Board(board_call(rng, name, 8))])?;
     }
     Ok(tally)
 }
@@ -264,11 +439,24 @@ fn next_name(rng: &mut Rng) -> Name {
     }
 }
 
-/// Calls of a list: one of so many puts the device to sleep, and in power-down one of so many ends it.
+/// The name of a list's next call of the 82C53 or of the board: 4 of 14 are writes, and the others come alike, but for few resets.
+fn next_board_name(rng: &mut Rng) -> BoardName {
+    if rng.one_in(40) {
+        return BoardName::Reset;
+    }
+    match rng.below(14) {
+        0..=3 => BoardName::Write,
+        _ => rng.pick(&[BoardName::Read, BoardName::Pulse, BoardName::Pulses, BoardName::Cycle, BoardName::Jump]),
+    }
+}
+
+/// Calls of a list: one of so many is of the 82C53 or of the board; of the others one of so many puts the device to sleep, and in
+/// power-down one of so many ends it.
+const BOARD: u64 = 3;
 const SLEEP: u64 = 20;
 const END_OF_POWER_DOWN: u64 = 10;
 
-/// A list's next call.
+/// A list's next call of the chip.
 fn next_call(rng: &mut Rng, powered_down: bool, most: u64) -> Call {
     if powered_down && rng.one_in(END_OF_POWER_DOWN) {
         Call::Reset(rng.pick(&[51, 52]))
@@ -289,8 +477,12 @@ fn powers_down(before: bool, call: &Call) -> bool {
     }
 }
 
-/// Runs a random list from reset or from a raw record.
+/// Runs a random list from reset or from raw records.
 pub fn run_list(rng: &mut Rng, length: u64) -> Result<Tally, String> {
+    let interval = match rng.below(3) {
+        0 => good_interval(rng),
+        _ => Interval::reset(),
+    };
     let mut powered_down = false;
     let first = match rng.below(3) {
         0 => {
@@ -302,9 +494,13 @@ pub fn run_list(rng: &mut Rng, length: u64) -> Result<Tally, String> {
     };
     let most = rng.pick(&[3, 30, 300, 3000]);
     let calls = (1..length).map(|_| {
+        if rng.one_in(BOARD) {
+            let name = next_board_name(rng);
+            return Request::Board(board_call(rng, name, most));
+        }
         let call = next_call(rng, powered_down, most);
         powered_down = powers_down(powered_down, &call);
         Request::Call(call)
     });
-    Pair::default().run(std::iter::once(first).chain(calls))
+    Pair::of_board(Board { device: Device::default(), interval }).run(std::iter::once(first).chain(calls))
 }

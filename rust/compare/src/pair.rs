@@ -1,24 +1,26 @@
-//! A device of the library and one of the model, run by the same calls.
+//! A board of the library and one of the model, run by the same calls.
 use crate::ran::{row, Ran};
 use crate::reach::{shortened, REACH};
-use crate::record::to_model;
-use c51::raw::{self, LineAnswer, LookAnswer, ValueAnswer};
-use c51::{pcon, AnswerRow, Device};
-use c51model::model::{self, Refusal};
+use crate::record::{board_to_model, interval_of_model, interval_to_model, to_model, Model};
+use c51::raw::{self, BoardAnswer, LineAnswer, LookAnswer, OutputsAnswer, ValueAnswer};
+use c51::{pcon, AnswerRow, Board, Device, Interval};
+use c51model::interval::{self, board_cycle, board_jump};
+use c51model::model::{self, Refusal, BAD_RECORD};
 use c51model::script;
+use replay::board::BoardCall;
 use replay::calls::{Call, Request};
 use replay::{lines, record};
 use std::fmt::Debug;
 
-/// The two devices; they hold the same after every call that passes the comparison.
+/// The two boards; they hold the same after every call that passes the comparison.
 #[derive(Clone, Copy)]
 pub struct Pair {
-    pub library: Device,
-    pub model: model::Device,
+    pub library: Board,
+    pub model: Model,
 }
 
 impl Default for Pair {
-    /// The record of zeros, as a script starts.
+    /// As a script starts: a device that is the record of zeros, and an 82C53 after reset.
     fn default() -> Pair {
         Pair::of_record(Device::default())
     }
@@ -54,9 +56,37 @@ fn row_of_found(code: u8, found: Option<u64>) -> AnswerRow {
     }
 }
 
+/// The most pulses or board cycles of a jump that are made one by one too.
+const ONE_BY_ONE: u64 = 40;
+
+/// The call made the other way: a pulse or a cycle as a jump of 1, a short jump as so many of them. Gives the answer and the board.
+fn other_way(mut board: Board, call: &BoardCall) -> Option<(OutputsAnswer, Board)> {
+    let answer = match *call {
+        BoardCall::Pulse(gates) => raw::c53_jump(&mut board.interval, gates, 1),
+        BoardCall::Pulses(gates, n) if n <= ONE_BY_ONE => (0..n).map(|_| raw::c53_pulse(&mut board.interval, gates)).last()?,
+        BoardCall::Cycle(pins, gates) => raw::c51_board_jump(&mut board, pins, gates, 1),
+        BoardCall::Jump(pins, gates, n) if n <= ONE_BY_ONE => {
+            let BoardAnswer { code, outputs, .. } = (0..n).map(|_| raw::c51_board_cycle(&mut board, pins, gates)).last()?;
+            OutputsAnswer { code, outputs }
+        }
+        _ => return None,
+    };
+    Some((answer, board))
+}
+
+/// Whether 0 stands beside each mark of 0.
+fn is_plain(c: &Interval) -> bool {
+    interval_to_model(c).is_some_and(|model| interval_of_model(&model) == *c)
+}
+
 impl Pair {
+    /// A device beside an 82C53 after reset.
     pub fn of_record(device: Device) -> Pair {
-        Pair { library: device, model: to_model(&device) }
+        Pair::of_board(Board { device, interval: Interval::reset() })
+    }
+
+    pub fn of_board(board: Board) -> Pair {
+        Pair { library: board, model: board_to_model(&board) }
     }
 
     /// Runs a call script.
@@ -66,24 +96,25 @@ impl Pair {
     }
 
     /// Runs what the lines of a script ask for, each call over fewer cycles where it is out of reach, and compares
-    /// every answer and after each line every field; then runs each call once more as a list of one, and all of them as
-    /// one list. A difference comes as a text with a script that shows it.
+    /// every answer and after each line every field; then runs each call of the chip once more as a list of one, and all
+    /// of them up to the next of another kind as one list. A difference comes as a text with a script that shows it.
     pub fn run(&mut self, requests: impl IntoIterator<Item = Request>) -> Result<Tally, String> {
         let mut tally = Tally::default();
-        let mut ran = Ran::from(self.library);
+        let mut ran = Ran::from(self.library.device);
         for request in requests {
             let request = shortened(&self.model, &request).unwrap_or(request);
             let before = self.library;
             let answer = self.step(&request).map_err(|what| {
-                let put = Request::Put(Box::new(before));
-                format!("the library and the model differ in the call of this script:\n{put}\n{request}\nD\n{what}")
+                let put = Request::Put(Box::new(before.device));
+                let beside = format!("the 82C53 before it: {:?}", before.interval);
+                format!("the library and the model differ in the call of this script:\n{put}\n{request}\nD\n{what}\n{beside}")
             })?;
-            tally += Tally::of(&request, &before, &self.library);
+            tally += Tally::of(&request, &before.device, &self.library.device);
             match (request, answer) {
-                (Request::Call(call), Some(answer)) => ran.push(call, answer, self.library)?,
-                (Request::Put(device), _) => {
+                (Request::Call(call), Some(answer)) => ran.push(call, answer, self.library.device)?,
+                (Request::Board(_) | Request::Put(_), _) => {
                     ran.compare()?;
-                    ran = Ran::from(*device);
+                    ran = Ran::from(self.library.device);
                 }
                 _ => {}
             }
@@ -96,23 +127,36 @@ impl Pair {
     fn step(&mut self, request: &Request) -> Result<Option<AnswerRow>, String> {
         let answer = match request {
             Request::Call(call) => Some(self.call(call)?),
+            Request::Board(call) => {
+                self.board_call(call)?;
+                None
+            }
             Request::Put(device) => {
-                *self = Pair::of_record(**device);
+                self.library.device = **device;
+                self.model.device = to_model(device);
                 None
             }
             Request::Dump => None,
         };
-        same(raw::c51_accepts(self.library), self.model.record_is_good().into())?;
-        if to_model(&self.library) != self.model {
-            let (library, model) = (record::text(&self.library), script::dump(&self.model));
+        let (library, model) = (&self.library, &self.model);
+        same(raw::c51_accepts(library.device), model.device.record_is_good().into())?;
+        if to_model(&library.device) != model.device {
+            let (library, model) = (record::text(&library.device), script::dump(&model.device));
             return Err(format!("the library leaves {library}\nthe model leaves   {model}"));
+        }
+        same(raw::c53_accepts(library.interval), model.timer.is_some().into())?;
+        if interval_to_model(&library.interval) != model.timer {
+            return Err(format!("the library leaves {:?}\nthe model leaves   {:?}", library.interval, model.timer));
+        }
+        if let Some(timer) = &model.timer {
+            same(raw::c53_outputs(library.interval), timer.outputs())?;
         }
         Ok(answer)
     }
 
     /// Runs a call by itself on both, and compares the answers; gives the one that it has in a list.
     fn call(&mut self, call: &Call) -> Result<AnswerRow, String> {
-        let (library, model) = (&mut self.library, &mut self.model);
+        let (library, model) = (&mut self.library.device, &mut self.model.device);
         Ok(match call {
             &Call::Reset(kind) => {
                 let (device, answer) = model::Device::reset(kind);
@@ -177,12 +221,71 @@ impl Pair {
             }
         })
     }
+
+    /// Makes a call of the 82C53 or of the board on both, and compares the answers, and the call with itself made the other way. A
+    /// refused one leaves the board; one on an 82C53 that the model has no value for is refused by 1.
+    fn board_call(&mut self, call: &BoardCall) -> Result<(), String> {
+        let given = self.library;
+        let (library, model) = (&mut self.library, &mut self.model);
+        let timer = model.timer.as_mut().ok_or(BAD_RECORD);
+        let (code, outputs) = match *call {
+            BoardCall::Reset => {
+                library.interval = raw::c53_reset();
+                model.timer = Some(interval::Interval::reset());
+                (0, 0)
+            }
+            BoardCall::Write(address, value) => {
+                let code = code_and(timer.and_then(|timer| timer.write(address, value))).0;
+                same(raw::c53_write(&mut library.interval, address, value), code)?;
+                (code, 0)
+            }
+            BoardCall::Read(address) => {
+                let (code, value) = code_and(timer.and_then(|timer| timer.read(address)));
+                same(raw::c53_read(&mut library.interval, address), ValueAnswer { code, value })?;
+                (code, 0)
+            }
+            BoardCall::Pulse(gates) => {
+                let (code, outputs) = code_and(timer.and_then(|timer| timer.pulse(gates)));
+                same(raw::c53_pulse(&mut library.interval, gates), OutputsAnswer { code, outputs })?;
+                (code, outputs)
+            }
+            BoardCall::Pulses(gates, n) => {
+                let (code, outputs) = code_and(timer.and_then(|timer| timer.pulses(gates, n)));
+                same(raw::c53_jump(&mut library.interval, gates, n), OutputsAnswer { code, outputs })?;
+                (code, outputs)
+            }
+            BoardCall::Cycle(pins, gates) => {
+                let cycled = timer.and_then(|timer| board_cycle(&mut model.device, timer, pins, gates));
+                let (code, (line, outputs)) = code_and(cycled);
+                same(raw::c51_board_cycle(library, pins, gates), BoardAnswer { code, line, outputs })?;
+                (code, outputs)
+            }
+            BoardCall::Jump(pins, gates, n) => {
+                let jumped = timer.and_then(|timer| board_jump(&mut model.device, timer, pins, gates, n));
+                let (code, outputs) = code_and(jumped.map(|(_, outputs)| outputs));
+                same(raw::c51_board_jump(library, pins, gates, n), OutputsAnswer { code, outputs })?;
+                (code, outputs)
+            }
+        };
+        if code != 0 && self.library != given {
+            return Err(format!("the refused call leaves {:?}", self.library));
+        }
+        if is_plain(&given.interval) && !is_plain(&self.library.interval) {
+            return Err(format!("the library leaves a number beside a mark of 0: {:?}", self.library.interval));
+        }
+        let made = (OutputsAnswer { code, outputs }, self.library);
+        match other_way(given, call) {
+            Some(other) if other != made => Err(format!("the library gives {made:?}\nthe other way    {other:?}")),
+            _ => Ok(()),
+        }
+    }
 }
 
 /// The cycles of a call that are counted.
 fn cycles(request: &Request, before: &Device, after: &Device) -> u64 {
     match request {
-        Request::Call(Call::Cycle(_) | Call::Jump(..) | Call::Trace(_)) => {
+        Request::Call(Call::Cycle(_) | Call::Jump(..) | Call::Trace(_))
+        | Request::Board(BoardCall::Cycle(..) | BoardCall::Jump(..)) => {
             Some(after.cycle.wrapping_sub(before.cycle)).filter(|&cycles| cycles <= REACH).unwrap_or(0)
         }
         _ => 0,
@@ -199,6 +302,8 @@ pub struct Tally {
     pub in_power_down: u64,
     /// The takes that cleared IDL.
     pub woken: u64,
+    /// The calls of the 82C53 and of the board.
+    pub of_the_board: u64,
 }
 
 impl Tally {
@@ -206,7 +311,13 @@ impl Tally {
     fn of(request: &Request, before: &Device, after: &Device) -> Tally {
         let in_power_down = before.pcon & pcon::PD != 0 && before.accepts();
         let woken = *request == Request::Call(Call::Take) && before.pcon & !after.pcon & pcon::IDL != 0;
-        Tally { calls: 1, cycles: cycles(request, before, after), in_power_down: in_power_down.into(), woken: woken.into() }
+        Tally {
+            calls: 1,
+            cycles: cycles(request, before, after),
+            in_power_down: in_power_down.into(),
+            woken: woken.into(),
+            of_the_board: matches!(request, Request::Board(_)).into(),
+        }
     }
 }
 
@@ -216,5 +327,6 @@ impl std::ops::AddAssign for Tally {
         self.cycles += other.cycles;
         self.in_power_down += other.in_power_down;
         self.woken += other.woken;
+        self.of_the_board += other.of_the_board;
     }
 }

@@ -1,9 +1,10 @@
 //! A fixed number of lists and raw records of fixed seeds, and that the comparison finds what it must.
-use c51::{call, flag, pcon, Device, ANSWER_WORDS, MAX_CYCLES, PINS_HIGH};
-use c51model::script;
-use compare::lists::{raw_record, run_list, run_record, script, styles};
+use c51::{call, flag, pcon, Board, Counter, Device, Interval, ANSWER_WORDS, GATES_HIGH, MAX_CYCLES, PINS_HIGH};
+use c51model::interval::board_jump;
+use c51model::{coverage, script};
+use compare::lists::{raw_interval, raw_record, run_list, run_record, script, styles};
 use compare::pair::{Pair, Tally};
-use compare::record::{of_model, to_model};
+use compare::record::{board_to_model, interval_of_model, interval_to_model, of_model, to_model};
 use compare::{entry, STAGE};
 use random::Rng;
 use replay::calls::{Call, Request};
@@ -12,7 +13,7 @@ use std::path::Path;
 
 const SCRIPTS_OF_A_STYLE: u64 = 4;
 const LINES: u64 = 1500;
-const LISTS: u64 = 2_000;
+const LISTS: u64 = 3_000;
 const LIST_LENGTH: u64 = 50;
 const RECORDS: u64 = 100_000;
 
@@ -29,6 +30,15 @@ fn scripts_of_the_model() {
     }
     assert_eq!(total.calls, styles.len() as u64 * SCRIPTS_OF_A_STYLE * LINES);
     assert!(total.cycles > 1_000_000, "{total:?}");
+    assert!(total.of_the_board > SCRIPTS_OF_A_STYLE * LINES, "{total:?}");
+}
+
+/// The rules of the 82C53 that the model has followed in this thread fewer times than so often.
+fn rare_rules(least: u64) -> Vec<&'static str> {
+    let [on_51, on_52] = coverage::counts();
+    let times = on_51.iter().zip(&on_52).map(|(a, b)| a + b);
+    let of_request_three = coverage::NAMES.iter().zip(times).filter(|(name, _)| name.starts_with("3: "));
+    of_request_three.filter(|&(_, times)| times < least).map(|(name, _)| *name).collect()
 }
 
 #[test]
@@ -40,17 +50,24 @@ fn fresh_lists() {
     assert_eq!(total.calls, LISTS * LIST_LENGTH);
     assert!((total.calls / 50..total.calls / 5).contains(&total.in_power_down), "{total:?}");
     assert!(total.woken > LISTS / 20, "{total:?}");
+    assert!(total.of_the_board > total.calls / 4, "{total:?}");
+    assert_eq!(rare_rules(50), [""; 0], "every rule of the 82C53");
 }
 
 #[test]
 fn raw_records() {
-    let mut accepted = 0;
+    let mut accepted = [0; 2];
     let mut total = Tally::default();
     for seed in 0..RECORDS {
-        accepted += u64::from(raw_record(&mut Rng::part(2, seed)).accepts());
+        let rng = &mut Rng::part(2, seed);
+        accepted[0] += u64::from(raw_record(rng).accepts());
+        accepted[1] += u64::from(raw_interval(rng).accepts());
         total += run_record(&mut Rng::part(2, seed)).unwrap_or_else(|what| panic!("record {seed}: {what}"));
     }
-    assert!(accepted > RECORDS / 3 && accepted < RECORDS * 2 / 3, "{accepted} of {RECORDS} accepted");
+    for accepted in accepted {
+        assert!(accepted > RECORDS / 3 && accepted < RECORDS * 2 / 3, "{accepted} of {RECORDS} accepted");
+    }
+    assert_eq!((total.calls, total.of_the_board), (18 * RECORDS, 7 * RECORDS));
     assert!((total.calls / 40..total.calls / 5).contains(&total.in_power_down), "{total:?}");
     assert!(total.woken > RECORDS / 100, "{total:?}");
 }
@@ -146,6 +163,41 @@ fn any_cut_ends_alike() {
         lists += 1;
     }
     assert!(lists > 1_000, "{lists} lists");
+}
+
+/// The same of boards, with gates that change too: board cycles, board jumps and any mix of them.
+#[test]
+fn any_cut_of_a_board_ends_alike() {
+    let mut lists = 0;
+    for seed in 0..4_000 {
+        let rng = &mut Rng::part(9, seed);
+        let board = Board { device: raw_record(rng), interval: raw_interval(rng) };
+        if !board.device.accepts() || !board.interval.accepts() {
+            continue;
+        }
+        let list: Vec<(Stretch, u8)> = stretches(rng).into_iter().map(|part| (part, rng.byte() & GATES_HIGH)).collect();
+        let [mut cycled, mut jumped, mut mixed] = [board; 3];
+        let mut model = board_to_model(&board);
+        let timer = model.timer.as_mut().expect("an 82C53 that is accepted");
+        for &(Stretch { pins, cycles }, gates) in &list {
+            (0..cycles).for_each(|_| assert!(cycled.cycle(pins, gates).is_ok()));
+            jumped.jump(pins, gates, cycles).unwrap();
+            for part in cut(rng, &[Stretch { pins, cycles }]) {
+                if rng.one_in(2) {
+                    mixed.jump(pins, gates, part.cycles).unwrap();
+                } else {
+                    (0..part.cycles).for_each(|_| assert!(mixed.cycle(pins, gates).is_ok()));
+                }
+            }
+            board_jump(&mut model.device, timer, pins, gates, cycles).unwrap();
+        }
+        for (way, ended) in [("cycles", cycled), ("jumps", jumped), ("a mix", mixed)] {
+            assert_eq!(ended, cycled, "board {seed}, {way}: {list:?}");
+            assert_eq!(board_to_model(&ended), model, "board {seed}, {way}: {list:?}");
+        }
+        lists += 1;
+    }
+    assert!(lists > 600, "{lists} lists");
 }
 
 /// A wake look finds the first k after which single cycles have an interrupt offered, in the library and in the model; a jump
@@ -255,10 +307,77 @@ fn a_difference_in_any_field_is_found() {
         let mut numbers = numbers(&library);
         numbers[number] ^= 1;
         let mut pair = Pair::of_record(library);
-        pair.model = script::raw_record(&numbers).unwrap();
+        pair.model.device = script::raw_record(&numbers).unwrap();
         let text = pair.run([Request::Dump]).unwrap_err();
         assert!(text.contains(&format!("{}\nD\n", Request::Put(Box::new(library)))), "{text}");
     }
+}
+
+/// The same of every field of the 82C53, beside a mark of 1 where it has one.
+#[test]
+fn a_difference_in_any_field_of_the_82c53_is_found() {
+    let changes: [fn(&mut Counter); 15] = [
+        |k| k.mode ^= 2,
+        |k| k.bcd ^= 1,
+        |k| k.format ^= 1,
+        |k| k.output ^= 1,
+        |k| k.gate ^= 1,
+        |k| k.loaded ^= 1,
+        |k| k.waits ^= 1,
+        |k| k.first ^= 1,
+        |k| k.low ^= 1,
+        |k| k.high ^= 1,
+        |k| k.latched ^= 1,
+        |k| k.count ^= 1,
+        |k| k.reload ^= 1,
+        |k| k.waiting ^= 1,
+        |k| k.latch ^= 1,
+    ];
+    let marks = Counter { format: 3, loaded: 1, waits: 1, first: 1, latched: 1, count: 1, ..Counter::default() };
+    let interval = Interval { counter0: marks, counter1: marks, counter2: marks };
+    let good = Pair::of_board(Board { device: Device::reset(52).unwrap(), interval });
+    good.clone().run([Request::Dump]).expect("the same");
+    for change in changes {
+        for counter in 0..3 {
+            let mut pair = good;
+            let c = &mut pair.library.interval;
+            change([&mut c.counter0, &mut c.counter1, &mut c.counter2][counter]);
+            let text = pair.run([Request::Dump]).unwrap_err();
+            assert!(text.contains("the library leaves Interval"), "{text}");
+        }
+    }
+    let mut pair = good;
+    pair.library.interval.counter1.format = 0;
+    assert!(pair.run([Request::Dump]).is_err(), "a record that is not accepted");
+}
+
+/// What the model has of an 82C53 is all of it, but for what stands beside a mark of 0.
+#[test]
+fn the_two_82c53s_are_one_to_one() {
+    let mut rng = Rng::new(5);
+    let mut accepted = 0;
+    for _ in 0..1000 {
+        let raw = raw_interval(&mut rng);
+        assert_eq!(interval_to_model(&raw).is_some(), raw.accepts());
+        let Some(model) = interval_to_model(&raw) else { continue };
+        let plain = interval_of_model(&model);
+        assert_eq!(interval_to_model(&plain), Some(model));
+        for (raw, plain) in [(raw.counter0, plain.counter0), (raw.counter1, plain.counter1), (raw.counter2, plain.counter2)] {
+            let Counter { loaded, waits, first, latched, .. } = raw;
+            let expected = Counter {
+                low: raw.low * first,
+                high: if raw.format == 3 { raw.high } else { 0 },
+                reload: raw.reload * u16::from(loaded),
+                waiting: raw.waiting * u16::from(waits),
+                latch: raw.latch * u16::from(latched),
+                ..raw
+            };
+            assert_eq!(plain, expected);
+        }
+        accepted += 1;
+    }
+    assert!(accepted > 300, "{accepted} accepted");
+    assert_eq!(interval_to_model(&Interval::reset()), Some(c51model::interval::Interval::reset()));
 }
 
 #[test]

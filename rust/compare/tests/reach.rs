@@ -1,7 +1,7 @@
 //! The reach of the comparison: what is shortened and what is not, and the program over a script.
 use c51::{pin, PINS_HIGH};
 use compare::entry;
-use compare::reach::{script_in_reach, REACH};
+use compare::reach::{script_in_reach, PULSES, REACH};
 use replay::calls::Call;
 use std::io::Write;
 use std::process::{Command, Output, Stdio};
@@ -111,6 +111,46 @@ fn refused_calls_stay() {
     let too_long = format!("T 65537{}", " 2147483647".repeat(65_537));
     stays(waiting, &[&too_long]);
     stays("R 53\n", &LONGEST);
+}
+
+/// The longest jumps of the 82C53 and of the board, with all gates high and with all low, and what they are shortened to.
+const LONGEST_PULSES: [&str; 2] = ["VJ 7 1099511627776", "VX 127 7 1099511627776"];
+const GATES_LOW: [&str; 2] = ["VJ 0 1099511627776", "VX 127 0 1099511627776"];
+const FEWER_PULSES: [&str; 2] = ["VJ 7 2777", "VX 127 7 2777"];
+
+/// An 82C53 rests before a whole count, between two bytes of one in mode 0, and where gates hold what counts.
+#[test]
+fn an_82c53_at_rest_is_in_reach() {
+    for before in ["", "VW 3 52\n", "VW 3 48\nVW 0 5\n", "VW 3 16\nVW 0 9\nVC 1\nVW 3 48\nVW 0 5\n"] {
+        stays(&format!("R 52\n{before}"), &LONGEST_PULSES);
+    }
+    for word in [16, 20] {
+        stays(&format!("R 52\nVW 3 {word}\nVW 0 9\n"), &GATES_LOW);
+        stays(&format!("R 52\nVW 3 {word}\nVW 0 9\nVC 7\n"), &GATES_LOW);
+    }
+}
+
+#[test]
+fn a_counter_that_counts_is_out_of_reach() {
+    for count in ["VW 3 16\nVW 0 9\n", "VW 3 149\nVW 2 9\n", "VW 3 116\nVW 1 0\nVW 1 0\nVJ 7 99999\n"] {
+        let before = format!("R 52\n{count}");
+        is_shortened(&before, &[0, 1].map(|i| (LONGEST_PULSES[i], FEWER_PULSES[i])));
+        stays(&before, &[&format!("VJ 7 {PULSES}"), &format!("VX 127 7 {PULSES}"), "VJ 7 2000000"]);
+        // power-down stops the chip alone
+        is_shortened(&format!("{before}W 135 2\n"), &[0, 1].map(|i| (LONGEST_PULSES[i], FEWER_PULSES[i])));
+    }
+}
+
+/// A jump of the board is in reach where both chips are.
+#[test]
+fn a_chip_that_does_not_rest_shortens_the_board() {
+    let running = "R 51\nW 137 32\nW 136 192\n";
+    is_shortened(running, &[("VX 127 7 1099511627776", "VX 127 7 2777")]);
+    is_shortened(running, &[(&format!("VX 127 0 {}", REACH + 1), "VX 127 0 4290")]);
+    stays(running, &["VJ 7 1099511627776", &format!("VX 127 7 {REACH}")]);
+    // refused: by its gates, its pins, its length, and by a record
+    stays(running, &["VX 127 8 1099511627776", "VX 128 7 1099511627776", "VX 127 7 1099511627777", "VJ 8 1099511627776"]);
+    stays("R 53\nVW 3 16\nVW 0 9\n", &["VX 127 7 1099511627776"]);
 }
 
 #[test]

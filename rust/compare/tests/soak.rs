@@ -10,7 +10,7 @@ fn a_small_soak() {
     let ran = soak("--cycles 100000 --records 500 --seed 3");
     let out = String::from_utf8(ran.stdout).expect("text");
     assert!(ran.status.success(), "{out}");
-    assert!(out.starts_with("seed 3\n500 raw records in 5500 calls, ") && out.ends_with(" s: no difference\n"), "{out}");
+    assert!(out.starts_with("seed 3\n500 raw records in 9000 calls, ") && out.ends_with(" s: no difference\n"), "{out}");
 }
 
 #[test]

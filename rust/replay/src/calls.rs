@@ -1,10 +1,11 @@
 //! What a line of a script asks for: as a line's name and numbers, as text, and as a row of a list.
+use crate::board::BoardCall;
 use crate::lines::Numbers;
 use crate::record;
 use c51::{call, CallRow, Device};
 use std::fmt;
 
-/// A call with its arguments other than the device.
+/// A call of the chip with its arguments other than the device.
 #[derive(Clone, PartialEq, Debug)]
 pub enum Call {
     Reset(u8),
@@ -24,6 +25,8 @@ pub enum Call {
 #[derive(Clone, PartialEq, Debug)]
 pub enum Request {
     Call(Call),
+    /// A call of the 82C53 or of the board.
+    Board(BoardCall),
     /// A raw record in place of the device.
     Put(Box<Device>),
     /// The device's numbers.
@@ -31,7 +34,7 @@ pub enum Request {
 }
 
 /// A number of at most 8 bits.
-fn byte(n: u64) -> Option<u8> {
+pub fn byte(n: u64) -> Option<u8> {
     n.try_into().ok()
 }
 
@@ -50,7 +53,19 @@ fn entries(numbers: &Numbers) -> Option<Vec<u32>> {
 impl Request {
     /// What a line of this name and these numbers asks for, or none where it is a fault.
     pub fn of(name: &[u8], numbers: &Numbers) -> Option<Request> {
-        Some(Request::Call(match (name, numbers.first.as_slice()) {
+        match (name, numbers.first.as_slice()) {
+            (b"S", numbers) => Some(Request::Put(Box::new(record::of_numbers(numbers)?))),
+            (b"D", []) => Some(Request::Dump),
+            (&[b'V', letter], numbers) => BoardCall::of(letter, numbers).map(Request::Board),
+            _ => Call::of(name, numbers).map(Request::Call),
+        }
+    }
+}
+
+impl Call {
+    /// The call of a line of this name and these numbers, or none where it is a fault.
+    fn of(name: &[u8], numbers: &Numbers) -> Option<Call> {
+        Some(match (name, numbers.first.as_slice()) {
             (b"R", &[kind]) => Call::Reset(byte(kind)?),
             (b"W", &[address, value]) => Call::Write(byte(address)?, byte(value)?),
             (b"r", &[address]) => Call::Read(byte(address)?),
@@ -62,10 +77,8 @@ impl Request {
             (b"K", []) => Call::Take,
             (b"I", []) => Call::Return,
             (b"Z", &[pins, n]) => Call::Wake(byte(pins)?, n),
-            (b"S", numbers) => return Some(Request::Put(Box::new(record::of_numbers(numbers)?))),
-            (b"D", []) => return Some(Request::Dump),
             _ => return None,
-        }))
+        })
     }
 }
 
@@ -94,6 +107,7 @@ impl fmt::Display for Request {
     fn fmt(&self, f: &mut fmt::Formatter) -> fmt::Result {
         match self {
             Request::Call(call) => call.fmt(f),
+            Request::Board(call) => call.fmt(f),
             Request::Put(device) => write!(f, "S {}", record::text(device)),
             Request::Dump => f.write_str("D"),
         }

@@ -2,9 +2,10 @@
 //! are.
 //!
 //! A script is taken as its bytes come ([`lines`]), each line is a call or is about the record ([`calls`], [`record`]),
-//! calls one after the other run as a list ([`list`]), and what they answer is written ([`answers`]). [`script`] joins
-//! these.
+//! calls one after the other run as a list ([`list`]), and what they answer is written ([`answers`]). Those of the 82C53
+//! and of the board run by themselves ([`board`]). [`script`] joins these.
 pub mod answers;
+pub mod board;
 pub mod calls;
 pub mod lines;
 pub mod list;

@@ -4,7 +4,7 @@ use crate::calls::Request;
 use c51::MAX_TRACE;
 
 /// The bytes of the longest name.
-const LONGEST_NAME: usize = 1;
+const LONGEST_NAME: usize = 2;
 /// The numbers that are kept: the count of a trace, and one entry more than the longest trace has.
 const KEPT: usize = 1 + MAX_TRACE + 1;
 
@@ -122,6 +122,7 @@ pub fn request(line: &[u8]) -> Option<Request> {
 #[cfg(test)]
 mod tests {
     use super::*;
+    use crate::board::BoardCall;
     use crate::calls::Call;
     use crate::record::{numbers, text};
     use c51::Device;
@@ -162,6 +163,44 @@ mod tests {
         }
         assert_eq!(request(b"D"), Some(Request::Dump));
         assert_eq!(Request::Dump.to_string(), "D");
+    }
+
+    /// Those of the 82C53 and of the board likewise, and what is none of them.
+    #[test]
+    fn calls_of_the_board() {
+        let most = u64::MAX;
+        for (line, expected) in [
+            ("VR".to_string(), BoardCall::Reset),
+            ("VW 0 255".to_string(), BoardCall::Write(0, 255)),
+            ("VW 255 0".to_string(), BoardCall::Write(255, 0)),
+            ("Vr 0".to_string(), BoardCall::Read(0)),
+            ("Vr 255".to_string(), BoardCall::Read(255)),
+            ("VC 0".to_string(), BoardCall::Pulse(0)),
+            ("VC 255".to_string(), BoardCall::Pulse(255)),
+            ("VJ 0 0".to_string(), BoardCall::Pulses(0, 0)),
+            (format!("VJ 255 {most}"), BoardCall::Pulses(255, most)),
+            ("VB 0 255".to_string(), BoardCall::Cycle(0, 255)),
+            ("VB 255 0".to_string(), BoardCall::Cycle(255, 0)),
+            ("VX 0 255 0".to_string(), BoardCall::Jump(0, 255, 0)),
+            (format!("VX 255 0 {most}"), BoardCall::Jump(255, 0, most)),
+        ] {
+            assert_eq!(request(line.as_bytes()), Some(Request::Board(expected)), "{line}");
+            assert_eq!(expected.to_string(), line);
+            for fault in
+                [format!("{line} 0"), format!("{line} "), format!(" {line}"), line.to_lowercase(), line.replacen('V', "V ", 1)]
+            {
+                assert_eq!(request(fault.as_bytes()), None, "{fault:?}");
+            }
+            if let Some((fewer, _)) = line.rsplit_once(' ') {
+                assert_eq!(request(fewer.as_bytes()), None, "{fewer}");
+            }
+        }
+        for line in ["VW 256 0", "VW 0 256", "Vr 256", "VC 256", "VJ 256 0", "VB 256 0", "VB 0 256", "VX 256 0 0", "VX 0 256 0"] {
+            assert_eq!(request(line.as_bytes()), None, "{line}");
+        }
+        for line in ["V", "V 0", "VRR", "RV", "VO", "VD", "VK", "VT 0", "VL 127 1", "VZ 127 1", "VV", "VJ 7 18446744073709551616"] {
+            assert_eq!(request(line.as_bytes()), None, "{line}");
+        }
     }
 
     #[test]
@@ -224,17 +263,19 @@ mod tests {
             assert_eq!(call(line), None, "{line}");
         }
         // names, also those of calls that are not there yet
-        for line in
-            ["Q", "x", "w 137 1", "d", "o", "z 127 5", "VR", "VW 3 1", "B 1 2 3", "P", "Q 00", "H 1 0", "F 127", "G 127 1", "?"]
+        for line in ["Q", "x", "w 137 1", "d", "o", "z 127 5", "DD", "OO", "B 1 2 3", "P", "Q 00", "H 1 0", "F 127", "G 127 1", "?"]
         {
             assert_eq!(call(line), None, "{line}");
         }
     }
 
     #[test]
-    fn lines_of_one_byte() {
+    fn lines_of_one_and_two_bytes() {
         for byte in 0..=255 {
             assert_eq!(request(&[byte]).is_some(), b"DIKO".contains(&byte), "{byte}");
+            for second in 0..=255 {
+                assert_eq!(request(&[byte, second]).is_some(), [byte, second] == *b"VR", "{byte} {second}");
+            }
         }
     }
 
@@ -266,7 +307,17 @@ mod tests {
     #[test]
     fn one_line_after_another() {
         let mut line = Line::default();
-        for before in [&b""[..], b"R", b"R 5", b"R 99999999999999999999", b"RR", b"T 3 1 2 3", &long_trace(70_000, "4294967296")] {
+        for before in [
+            &b""[..],
+            b"R",
+            b"R 5",
+            b"R 99999999999999999999",
+            b"RR",
+            b"RRR",
+            b"VR",
+            b"T 3 1 2 3",
+            &long_trace(70_000, "4294967296"),
+        ] {
             line.take(before);
             assert_eq!(line.is_begun(), !before.is_empty());
             line.end();

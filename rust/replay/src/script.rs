@@ -1,11 +1,11 @@
-//! A whole script: its lines are taken as they come, calls one after the other run as a list, and each line is
-//! answered.
+//! A whole script: its lines are taken as they come, calls of the chip one after the other run as a list, and each line
+//! is answered.
 use crate::answers::write_answer;
 use crate::calls::Request;
 use crate::lines::Line;
 use crate::list::List;
 use crate::record;
-use c51::Device;
+use c51::{Board, Device, Interval};
 use std::fmt;
 use std::io::{self, BufWriter, ErrorKind, Read, Write};
 
@@ -47,8 +47,8 @@ pub fn replay(mut input: impl Read, output: impl Write) -> Result<(), Failure> {
 
 /// A script so far.
 struct Replay<W: Write> {
-    /// Before the first reset or put the record of zeros.
-    device: Device,
+    /// Before the first reset or put the device is the record of zeros; the 82C53 starts as its reset leaves it.
+    board: Board,
     line: Line,
     /// The lines that have ended.
     lines: u64,
@@ -59,7 +59,7 @@ struct Replay<W: Write> {
 impl<W: Write> Replay<W> {
     fn new(output: W) -> Replay<W> {
         Replay {
-            device: Device::default(),
+            board: Board { device: Device::default(), interval: Interval::reset() },
             line: Line::default(),
             lines: 0,
             list: List::default(),
@@ -99,14 +99,18 @@ impl<W: Write> Replay<W> {
                 }
                 Ok(())
             }
+            Some(Request::Board(call)) => {
+                self.run_list()?;
+                call.answer(&mut self.board, &mut self.out)
+            }
             Some(Request::Put(device)) => {
                 self.run_list()?;
-                self.device = *device;
+                self.board.device = *device;
                 writeln!(self.out, "0 0")
             }
             Some(Request::Dump) => {
                 self.run_list()?;
-                writeln!(self.out, "{}", record::text(&self.device))
+                writeln!(self.out, "{}", record::text(&self.board.device))
             }
             None => {
                 self.run_list()?;
@@ -117,7 +121,7 @@ impl<W: Write> Replay<W> {
 
     /// Runs the calls that wait, and answers each.
     fn run_list(&mut self) -> io::Result<()> {
-        self.list.run(&mut self.device).try_for_each(|(call, row)| write_answer(&mut self.out, call, row))
+        self.list.run(&mut self.board.device).try_for_each(|(call, row)| write_answer(&mut self.out, call, row))
     }
 
     /// Answers all that was asked.

@@ -73,9 +73,14 @@ impl Session {
 #[test]
 fn each_line_is_answered_at_once() {
     let mut session = Session::start();
-    for (line, answer) in
-        [("R 52\n", "0 0\n"), ("x\n", "? 2\n"), ("O\n", "0 none\n"), ("L 127 5\n", "0 none\n"), ("r 1\n", "3 0\n")]
-    {
+    for (line, answer) in [
+        ("R 52\n", "0 0\n"),
+        ("x\n", "? 2\n"),
+        ("O\n", "0 none\n"),
+        ("L 127 5\n", "0 none\n"),
+        ("VB 127 7\n", "0 1 0\n"),
+        ("r 1\n", "3 0\n"),
+    ] {
         session.send(line.as_bytes());
         assert_eq!(session.answer(), answer);
     }

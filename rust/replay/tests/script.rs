@@ -14,8 +14,9 @@ fn answers(script: &[u8]) -> String {
 const RESET: &str = "52 0 0 0 0 0 0 0 0 0 0 0 0 0 0 0 0 0 0 0 0 0 0 0 1 0 0 0 0 0 0 0 0 0 1 1 1 1 1 1 1";
 const ZEROS: &str = "0 0 0 0 0 0 0 0 0 0 0 0 0 0 0 0 0 0 0 0 0 0 0 0 0 0 0 0 0 0 0 0 0 0 0 0 0 0 0 0 0";
 
-/// Every form of a line, with its answer: Timer 0 overflows in idle, its interrupt is taken, and power-down follows.
-const LINES: [(&str, &str); 37] = [
+/// Every form of a line, with its answer: Timer 0 overflows in idle, its interrupt is taken, and power-down follows, in which counter 0
+/// of the 82C53 goes on, in mode 2 with a count of 257.
+const LINES: [(&str, &str); 68] = [
     ("D", ZEROS),
     ("O", "1 0"),
     ("R 52", "0 0"),
@@ -52,7 +53,38 @@ const LINES: [(&str, &str); 37] = [
     ("Z 127 1", "0 none"),
     ("J 127 1", "0 0"),
     ("D", "52 2 16 1 1 0 0 0 0 0 130 0 0 0 0 0 0 0 0 0 0 0 0 0 1 0 0 0 0 0 0 0 0 3 1 1 1 1 1 1 1"),
+    ("VC 7", "0 0"),
+    ("VW 3 52", "0 0"),
+    ("VW 0 1", "0 0"),
+    ("VW 0 0", "13 0"),
+    ("VW 0 1", "0 0"),
+    ("VW 3 50", "11 0"),
+    ("VW 3 194", "12 0"),
+    ("VW 4 0", "12 0"),
+    ("VC 1", "0 1"),
+    ("Vr 0", "0 1"),
+    ("Vr 00", "0 1"),
+    ("Vr 3", "12 0"),
+    ("VJ 1 255", "0 1"),
+    ("VC 1", "0 0"),
+    ("VC 8", "4 0"),
+    ("VJ 8 0", "4 0"),
+    ("VJ 7 1099511627777", "5 0"),
+    ("VJ 7", "?"),
+    ("VB 127 1", "0 1 1"),
+    ("VB 128 1", "4 0 0"),
+    ("VX 127 1 256", "0 0 0"),
+    ("VX 127 8 1", "4 0 0"),
+    ("VX 127 7 1099511627777", "5 0 0"),
+    ("VX 127 1 257000000000", "0 0 0"),
+    ("V R", "?"),
+    ("J 127 1", "0 0"),
+    ("D", "52 2 16 1 1 0 0 0 0 0 130 0 0 0 0 0 0 0 0 0 0 0 0 0 1 0 0 0 0 0 0 0 0 3 1 1 1 1 1 1 1"),
     ("R 53", "2 0"),
+    ("VB 127 7", "1 0 0"),
+    ("VX 127 7 1", "1 0 0"),
+    ("VR", "0 0"),
+    ("VC 1", "0 0"),
 ];
 
 fn script() -> Vec<u8> {
@@ -85,6 +117,25 @@ fn a_record_that_is_put_is_not_judged() {
     assert_eq!(answers(text.as_bytes()), format!("0 0\n{any}\n1 0\n{any}\n0 0\n0 1\n? 7\n? 8\n0 0\n"));
 }
 
+/// The 82C53 stands as its reset leaves it before any `VR`, which resets it alone, as `R` and `S` do the chip.
+#[test]
+fn each_chip_has_its_own_reset() {
+    let count = "VW 3 16\nVW 0 9\nVC 1\n";
+    assert_eq!(answers(b"VW 3 0\nVr 0\nVr 2\nVJ 7 1099511627776\n"), "0 0\n0 0\n0 0\n0 0\n");
+    let text = format!("{count}R 52\nC 127\nVr 0\nS {RESET}\nVr 0\nVB 127 1\nR 53\nVr 0\n");
+    assert_eq!(answers(text.as_bytes()), "0 0\n0 0\n0 0\n0 0\n0 1\n0 9\n0 0\n0 9\n0 1 0\n2 0\n0 8\n");
+    let text = format!("R 52\n{count}C 127\nVR\nVC 1\nVr 0\nD\n");
+    let cycled = RESET.replace(" 0 1 1 1 1 1 1 1", " 1 1 1 1 1 1 1 1");
+    assert_eq!(answers(text.as_bytes()), format!("0 0\n0 0\n0 0\n0 0\n0 1\n0 0\n0 0\n0 0\n{cycled}\n"));
+}
+
+/// Calls of the chip before and after one of the board run on the same device, in their order.
+#[test]
+fn the_board_among_lists() {
+    let text = "R 52\nW 137 2\nW 136 16\nC 127\nVB 127 0\nr 138\nJ 127 3\nVX 126 0 4\nr 138\nC 127\nr 138\n";
+    assert_eq!(answers(text.as_bytes()), "0 0\n0 0\n0 0\n0 1\n0 1 0\n0 2\n0 0\n0 0 0\n0 9\n0 1\n0 10\n");
+}
+
 #[test]
 fn the_end_of_a_script() {
     assert_eq!(answers(b""), "");
@@ -108,7 +159,7 @@ fn any_bytes() {
     for number in 2..2000 {
         let length = rng.below(40);
         let mut line: Vec<u8> = (0..length).map(|_| rng.byte()).filter(|&byte| byte != b'\n').collect();
-        if matches!(line[..], [b'D' | b'I' | b'K' | b'O']) {
+        if matches!(line[..], [b'D' | b'I' | b'K' | b'O'] | [b'V', b'R']) {
             line.clear();
         }
         script.extend(line);

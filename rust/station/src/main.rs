@@ -50,7 +50,8 @@ fn main() {
     let vcd = options.vcd.map(Output::create);
     let tags = options.plan.tags;
     let start = Instant::now();
-    let (rows, waveform) = run::run::<c51::Device>(&options.plan, vcd.is_some(), |done| {
+    let drawn = vcd.is_some().then_some(options.vcd_station);
+    let (rows, waveform) = run::run::<c51::Board>(&options.plan, drawn, |done| {
         if done == tags || done % tags.div_ceil(10) == 0 {
             eprintln!("{done} of {tags} tags, {:.1} s", start.elapsed().as_secs_f64());
         }

@@ -1,5 +1,5 @@
 //! The command line of the station program.
-use crate::chip::CYCLES_A_SECOND;
+use crate::chips::CYCLES_A_SECOND;
 use crate::frame::SAMPLES;
 use crate::run::{Plan, DIGITS};
 
@@ -11,7 +11,8 @@ pub const USAGE: &str = "usage: station [OPTIONS]
   --noise N       samples flipped in a noisy bit, 0 to 3 (1); from 2 on the noise wins
   --tag DIGITS..  tags of 15 digits to send in turn, in place of random ones
   --csv FILE      write the table as CSV too
-  --vcd FILE      write a waveform of station 1 around each frame, for GTKWave
+  --vcd FILE      write a waveform of a station around each tag, for GTKWave
+  --vcd-station N its number (1); stations 1 and 2 have an 82C53
   --help          print this";
 
 const MOST_STATIONS: u64 = 1000;
@@ -23,6 +24,8 @@ pub struct Options {
     pub plan: Plan,
     pub csv: Option<String>,
     pub vcd: Option<String>,
+    /// The station of the waveform.
+    pub vcd_station: usize,
     pub help: bool,
 }
 
@@ -57,7 +60,7 @@ fn tag(value: String) -> Result<String, String> {
 impl Options {
     pub fn parse(words: impl Iterator<Item = String>) -> Result<Options, String> {
         let plan = Plan { stations: 11, tags: 0, gap: CYCLES_A_SECOND, seed: 1, noise: 1, chosen: Vec::new() };
-        let mut options = Options { plan, csv: None, vcd: None, help: false };
+        let mut options = Options { plan, csv: None, vcd: None, vcd_station: 1, help: false };
         let mut tags = None;
         let mut words = words.peekable();
         while let Some(name) = words.next() {
@@ -65,7 +68,7 @@ impl Options {
                 options.help = true;
                 continue;
             }
-            let known = ["--tags", "--gap", "--stations", "--seed", "--noise", "--tag", "--csv", "--vcd"];
+            let known = ["--tags", "--gap", "--stations", "--seed", "--noise", "--tag", "--csv", "--vcd", "--vcd-station"];
             if !known.contains(&name.as_str()) {
                 return Err(format!("unknown option '{name}'"));
             }
@@ -79,6 +82,7 @@ impl Options {
                 "--noise" => plan.noise = number(&name, &value, 0, SAMPLES)?,
                 "--csv" => options.csv = Some(value),
                 "--vcd" => options.vcd = Some(value),
+                "--vcd-station" => options.vcd_station = number(&name, &value, 1, MOST_STATIONS)? as usize,
                 _ => {
                     plan.chosen.push(tag(value)?);
                     while let Some(value) = words.next_if(|word| !word.starts_with("--")) {
@@ -89,6 +93,9 @@ impl Options {
         }
         let of_chosen = if options.plan.chosen.is_empty() { 33 } else { options.plan.chosen.len() as u64 };
         options.plan.tags = tags.unwrap_or(of_chosen);
+        if options.vcd_station > options.plan.stations {
+            return Err(format!("--vcd-station {} is not one of the {} stations", options.vcd_station, options.plan.stations));
+        }
         Ok(options)
     }
 }
@@ -107,7 +114,9 @@ mod tests {
         assert_eq!((options.plan.stations, options.plan.tags, options.plan.gap), (11, 33, 921_600));
         let options = parse("--tags 5 --gap 0.5 --stations 2 --seed 9 --noise 0 --csv a.csv --vcd b.vcd").unwrap();
         assert_eq!(options.plan, Plan { stations: 2, tags: 5, gap: 460_800, seed: 9, noise: 0, chosen: vec![] });
-        assert_eq!((options.csv.as_deref(), options.vcd.as_deref()), (Some("a.csv"), Some("b.vcd")));
+        assert_eq!((options.csv.as_deref(), options.vcd.as_deref(), options.vcd_station), (Some("a.csv"), Some("b.vcd"), 1));
+        assert_eq!(parse("--vcd b.vcd --vcd-station 11").unwrap().vcd_station, 11);
+        assert_eq!(parse("--vcd-station 3 --stations 3").unwrap().vcd_station, 3);
         let options = parse("--tag 123456789012345 000000000000000 --seed 2 --tag 999999999999999").unwrap();
         assert_eq!(options.plan.tags, 3);
         assert_eq!(options.plan.chosen, ["123456789012345", "000000000000000", "999999999999999"]);
@@ -138,6 +147,9 @@ mod tests {
             ("--seed x", "--seed wants a whole number"),
             ("--tags", "--tags wants a value"),
             ("--csv --vcd x", "--csv wants a value"),
+            ("--vcd-station 0", "--vcd-station wants a whole number from 1 to 1000"),
+            ("--vcd-station 12", "--vcd-station 12 is not one of the 11 stations"),
+            ("--vcd-station 2 --stations 1", "--vcd-station 2 is not one of the 1 stations"),
             ("--tag", "--tag wants a value"),
             ("--frequency 12", "unknown option '--frequency'"),
             ("5", "unknown option '5'"),

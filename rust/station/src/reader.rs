@@ -1,7 +1,8 @@
-//! One station: its chip, and its program, which sleeps in idle until the serial interrupt wakes it.
-use crate::chip::Chip;
+//! One station: its chips, and its program, which sleeps in idle until the serial interrupt wakes it.
+use crate::chips::Chips;
 use crate::frame::Stretch;
-use crate::vcd::Waveform;
+use crate::timing::Timing;
+use crate::vcd::{Levels, Waveform};
 use c51::{address, flag, pcon, pin, PINS_HIGH};
 
 /// The vector of the serial port.
@@ -30,27 +31,44 @@ pub struct Received {
 }
 
 pub struct Reader<C> {
-    pub chip: C,
+    pub chips: C,
+    /// What the program does with the 82C53, where the station has one.
+    pub timing: Option<Timing>,
     received: Vec<Received>,
     /// Takes every cycle between `watch(true)` and `watch(false)`.
     pub waveform: Option<Waveform>,
     watching: bool,
 }
 
-impl<C: Chip> Reader<C> {
+impl<C: Chips> Reader<C> {
+    /// A station without an 82C53.
     pub fn new() -> Reader<C> {
-        let mut chip = C::reset();
+        let mut chips = C::reset();
         for (address, value) in SETUP {
-            chip.write(address, value);
+            chips.write(address, value);
         }
-        let mut reader = Reader { chip, received: Vec::new(), waveform: None, watching: false };
+        let mut reader = Reader { chips, timing: None, received: Vec::new(), waveform: None, watching: false };
         reader.sleep();
+        reader
+    }
+
+    /// One with an 82C53.
+    pub fn with_interval() -> Reader<C> {
+        let mut reader = Reader::new();
+        reader.timing = Some(Timing::new(&mut reader.chips));
         reader
     }
 
     /// Starts or stops the waveform, where the station has one.
     pub fn watch(&mut self, watching: bool) {
         self.watching = watching;
+    }
+
+    /// A fish comes into the tunnel or leaves it.
+    pub fn fish(&mut self, inside: bool) {
+        if let Some(timing) = &mut self.timing {
+            timing.fish(inside);
+        }
     }
 
     /// The bytes received since the last time.
@@ -63,7 +81,7 @@ impl<C: Chip> Reader<C> {
         let pins = if stretch.rxd == 1 { PINS_HIGH } else { PINS_HIGH & !pin::RXD };
         let mut left = stretch.cycles;
         while left > 0 {
-            let wake = self.chip.wake_look(pins, left);
+            let wake = self.chips.wake_look(pins, left);
             let n = wake.unwrap_or(left);
             self.advance(pins, n);
             left -= n;
@@ -74,43 +92,54 @@ impl<C: Chip> Reader<C> {
         }
     }
 
+    /// n cycles, and n pulses of the 82C53 where there is one.
     fn advance(&mut self, pins: u8, n: u64) {
+        let (chips, gates) = (&mut self.chips, self.timing.as_ref().map(Timing::gates));
         match &mut self.waveform {
             Some(waveform) if self.watching => {
                 for _ in 0..n {
-                    let line = self.chip.cycle(pins);
-                    waveform.cycle(&self.chip.record(), pins, line);
+                    let line = match gates {
+                        Some(gates) => chips.board_cycle(pins, gates),
+                        None => chips.cycle(pins),
+                    };
+                    waveform.cycle(&chips.record(), Levels { pins, line, gates: gates.unwrap_or(0), outputs: chips.outputs() });
                 }
             }
-            _ => self.chip.jump(pins, n),
+            _ => match gates {
+                Some(gates) => chips.board_jump(pins, gates, n),
+                None => chips.jump(pins, n),
+            },
         }
     }
 
     fn is_idle(&self) -> bool {
-        self.chip.read(address::PCON) & pcon::IDL != 0
+        self.chips.read(address::PCON) & pcon::IDL != 0
     }
 
     /// Sets IDL, and keeps the other bits of PCON.
     fn sleep(&mut self) {
-        let others = self.chip.read(address::PCON);
-        self.chip.write(address::PCON, others | pcon::IDL);
+        let others = self.chips.read(address::PCON);
+        self.chips.write(address::PCON, others | pcon::IDL);
     }
 
-    /// The interrupt routine: the take wakes the chip; then it reads SBUF, clears RI and returns.
+    /// The interrupt routine: the take wakes the chip; then it reads SBUF, sees to the 82C53, clears RI and returns.
     fn serve(&mut self) {
         let was_idle = self.is_idle();
-        let vector = self.chip.take();
+        let vector = self.chips.take();
         assert_eq!(vector, SERIAL_VECTOR, "no other interrupt is enabled");
         let woke = was_idle && !self.is_idle();
-        let byte = self.chip.read(address::SBUF);
-        self.received.push(Received { byte, cycle: self.chip.record().cycle - POLL, woke });
-        let scon = self.chip.read(address::SCON);
-        self.chip.write(address::SCON, scon & !flag::RI);
-        self.chip.return_from_interrupt();
+        let byte = self.chips.read(address::SBUF);
+        self.received.push(Received { byte, cycle: self.chips.record().cycle - POLL, woke });
+        if let Some(timing) = &mut self.timing {
+            timing.byte(&mut self.chips, byte);
+        }
+        let scon = self.chips.read(address::SCON);
+        self.chips.write(address::SCON, scon & !flag::RI);
+        self.chips.return_from_interrupt();
     }
 }
 
-impl<C: Chip> Default for Reader<C> {
+impl<C: Chips> Default for Reader<C> {
     fn default() -> Reader<C> {
         Reader::new()
     }
@@ -120,11 +149,12 @@ impl<C: Chip> Default for Reader<C> {
 mod tests {
     use super::*;
     use crate::frame::{frame, Noise, BIT, BITS, SAMPLES, TICK};
-    use c51::Device;
+    use crate::timing::{Time, CARRIAGE_RETURN, FLASH, LIMIT};
+    use c51::{out, Board};
 
     /// Sends one byte after `idle` cycles; gives what is received.
     fn sent(byte: u8, idle: u64, noise: Option<Noise>) -> Vec<Received> {
-        let mut reader: Reader<Device> = Reader::new();
+        let mut reader: Reader<Board> = Reader::new();
         reader.hold(Stretch { rxd: 1, cycles: idle });
         for stretch in frame(byte, noise) {
             reader.hold(stretch);
@@ -136,38 +166,108 @@ mod tests {
     /// Asleep from the start and after every byte, awake in between; the cycle of a byte is that of RI's rise.
     #[test]
     fn the_station_sleeps_and_every_byte_wakes_it() {
-        let mut reader: Reader<Device> = Reader::new();
+        let mut reader: Reader<Board> = Reader::new();
         // GF1 stays as it is
-        reader.chip.write(address::PCON, 0x08 | pcon::IDL).unwrap();
+        reader.chips.write(address::PCON, 0x08 | pcon::IDL);
         for byte in [0x00, 0x39, 0xFF] {
             reader.hold(Stretch { rxd: 1, cycles: 1_000 });
-            assert_eq!(reader.chip.pcon, 0x08 | pcon::IDL);
+            assert_eq!(reader.chips.device.pcon, 0x08 | pcon::IDL);
             let line = frame(byte, None);
             let (stop, bits) = line.split_last().unwrap();
             bits.iter().for_each(|&bit| reader.hold(bit));
             assert_eq!(reader.take_received(), [], "asleep until the stop bit");
-            let chip = reader.chip;
+            let chip = reader.chips.device;
             let rise = chip.look_ahead(PINS_HIGH, BIT).unwrap().expect("RI rises");
             reader.hold(*stop);
             assert_eq!(reader.take_received(), [Received { byte, cycle: chip.cycle + rise, woke: true }]);
-            assert_eq!(reader.chip.pcon, 0x08 | pcon::IDL);
-            assert_eq!((reader.chip.interrupts.low, reader.chip.serial.scon & flag::RI), (0, 0));
+            let chip = reader.chips.device;
+            assert_eq!((chip.pcon, chip.interrupts.low, chip.serial.scon & flag::RI), (0x08 | pcon::IDL, 0, 0));
         }
     }
 
     /// The interrupt is served in a stretch that ends with the cycle that polls RI, and not in one that ends before it.
     #[test]
     fn an_interrupt_at_the_end_of_a_stretch() {
-        let mut before: Reader<Device> = Reader::new();
+        let mut before: Reader<Board> = Reader::new();
         before.hold(Stretch { rxd: 1, cycles: 100 });
         frame(0x39, None)[..9].iter().for_each(|&bit| before.hold(bit));
-        let wake = before.chip.wake_look(PINS_HIGH, BIT).unwrap().expect("an interrupt");
+        let wake = before.chips.wake_look(PINS_HIGH, BIT).expect("an interrupt");
         for (first, received) in [(wake - 1, 0), (wake, 1), (wake + 1, 1)] {
-            let mut reader = Reader { chip: before.chip, ..Reader::new() };
+            let mut reader = Reader { chips: before.chips, ..Reader::new() };
             reader.hold(Stretch { rxd: 1, cycles: first });
             assert_eq!(reader.take_received().len(), received, "{first} of {wake} cycles");
             reader.hold(Stretch { rxd: 1, cycles: BIT - first });
             assert_eq!(reader.take_received().len(), 1 - received, "{first} of {wake} cycles");
+        }
+    }
+
+    /// Bytes one after the other, with a pause before each.
+    fn send(reader: &mut Reader<Board>, bytes: &[u8], pause: u64) {
+        for &byte in bytes {
+            reader.hold(Stretch { rxd: 1, cycles: pause });
+            frame(byte, None).into_iter().for_each(|stretch| reader.hold(stretch));
+        }
+    }
+
+    /// The 82C53 times a tag from the RI of its first byte to that of its carriage return, with any pause between the bytes, and reading
+    /// is as without it.
+    #[test]
+    fn a_tag_is_timed() {
+        for pause in 0..BIT {
+            let mut reader: Reader<Board> = Reader::with_interval();
+            let mut without: Reader<Board> = Reader::new();
+            for _ in 0..2 {
+                send(&mut reader, b"12345\r", pause);
+                send(&mut without, b"12345\r", pause);
+                let received = reader.take_received();
+                assert_eq!(received, without.take_received());
+                let took = received[5].cycle - received[0].cycle;
+                let timing = reader.timing.as_mut().unwrap();
+                assert_eq!((timing.take_time(), timing.take_time()), (Time::Took(took), Time::NoEnd), "a pause of {pause}");
+            }
+            assert_eq!(reader.chips.device, without.chips.device);
+        }
+    }
+
+    /// Where the carriage return does not come within the limit there is no time; the next byte begins a tag.
+    #[test]
+    fn a_tag_without_an_end() {
+        let mut reader: Reader<Board> = Reader::with_interval();
+        let time = |reader: &mut Reader<Board>| reader.timing.as_mut().unwrap().take_time();
+        send(&mut reader, b"12", 0);
+        assert_eq!((reader.chips.outputs() & out::OUT1, time(&mut reader)), (0, Time::NoEnd));
+        reader.hold(Stretch { rxd: 1, cycles: LIMIT.into() });
+        assert_eq!(reader.chips.outputs() & out::OUT1, out::OUT1, "the limit is over");
+        send(&mut reader, &[CARRIAGE_RETURN], 0);
+        assert_eq!(time(&mut reader), Time::NoEnd, "it came too late");
+        reader.take_received();
+        send(&mut reader, b"34\r", 7);
+        let received = reader.take_received();
+        assert_eq!(time(&mut reader), Time::Took(received[2].cycle - received[0].cycle));
+        send(&mut reader, &[CARRIAGE_RETURN], 0);
+        assert_eq!(time(&mut reader), Time::NoEnd, "the end of no tag");
+        reader.hold(Stretch { rxd: 1, cycles: 1_000_000 });
+        assert_eq!(reader.chips.outputs() & out::OUT1, out::OUT1, "it stays over, lap by lap");
+    }
+
+    /// The lamp flashes while a fish is in the tunnel, a whole period after it came, and not without one.
+    #[test]
+    fn the_lamp() {
+        let mut reader: Reader<Board> = Reader::with_interval();
+        let flashes = |reader: &mut Reader<Board>, cycles: u64| -> Vec<u64> {
+            let flash = |_: &u64| {
+                reader.hold(Stretch { rxd: 1, cycles: 1 });
+                reader.chips.outputs() & out::OUT0 == 0
+            };
+            (1..=cycles).filter(flash).collect()
+        };
+        let period = u64::from(FLASH);
+        assert_eq!(flashes(&mut reader, 3 * period), []);
+        for _ in 0..2 {
+            reader.fish(true);
+            assert_eq!(flashes(&mut reader, 3 * period + 100), [period, 2 * period, 3 * period]);
+            reader.fish(false);
+            assert_eq!(flashes(&mut reader, period), []);
         }
     }
 

@@ -1,10 +1,26 @@
 //! The tags that were read, as a table and as CSV.
-use crate::chip::CYCLES_A_SECOND;
+use crate::chips::CYCLES_A_SECOND;
 use crate::run::{Row, DIGITS};
+use crate::timing::{Time, LIMIT};
+use std::collections::BTreeSet;
 
 /// The time of a cycle in seconds.
 fn seconds(cycle: u64) -> f64 {
     cycle as f64 / CYCLES_A_SECOND as f64
+}
+
+/// Cycles in milliseconds.
+fn milliseconds(cycles: u64) -> String {
+    format!("{:.3}", seconds(cycles) * 1e3)
+}
+
+/// The time of a tag in milliseconds, where the station has an 82C53.
+fn time(row: &Row) -> String {
+    match row.time {
+        Some(Time::Took(cycles)) => milliseconds(cycles),
+        Some(Time::NoEnd) => "no-end".to_string(),
+        None => "-".to_string(),
+    }
 }
 
 fn verdict(row: &Row) -> String {
@@ -15,28 +31,30 @@ fn verdict(row: &Row) -> String {
     }
 }
 
-/// What a row shows: station, cycle, seconds, tag, noisy samples, verdict.
-fn fields(row: &Row) -> [String; 6] {
+/// What a row shows: station, cycle, seconds, tag, noisy samples, time by the 82C53, verdict.
+fn fields(row: &Row) -> [String; 7] {
     [
         row.station.to_string(),
         row.cycle.to_string(),
         format!("{:.6}", seconds(row.cycle)),
         row.tag.clone(),
         row.noisy_samples.to_string(),
+        time(row),
         verdict(row),
     ]
 }
 
 pub fn table(rows: &[Row]) -> String {
-    let mut text = format!("station {:>16} {:>14}  {:<15} noisy samples  verdict\n", "cycle", "seconds", "tag");
+    let mut text = format!("station {:>16} {:>14}  {:<15} noisy samples  ms by 82C53  verdict\n", "cycle", "seconds", "tag");
     for row in rows {
-        let [station, cycle, seconds, tag, noisy_samples, verdict] = fields(row);
-        text += &format!("{station:>7} {cycle:>16} {seconds:>14}  {tag:<15} {noisy_samples:>13}  {verdict}\n");
+        let [station, cycle, seconds, tag, noisy_samples, time, verdict] = fields(row);
+        text += &format!("{station:>7} {cycle:>16} {seconds:>14}  {tag:<15} {noisy_samples:>13}  {time:>11}  {verdict}\n");
     }
     let wrong = rows.iter().filter(|row| !row.right()).count();
     let noisy: u64 = rows.iter().map(|row| row.noisy_samples).sum();
     let woken: usize = rows.iter().map(|row| row.woken).sum();
     let (tags, digits) = (rows.len(), rows.len() * DIGITS);
+    text += &timed(rows);
     text += &match wrong {
         0 => format!("{tags} tags, {digits} digits, all as sent"),
         _ => format!("{tags} tags, {wrong} of them WRONG"),
@@ -45,8 +63,28 @@ pub fn table(rows: &[Row]) -> String {
     text
 }
 
+/// A line on the tags of the stations that have an 82C53, where there are any: the shortest and the longest time.
+fn timed(rows: &[Row]) -> String {
+    let stations: BTreeSet<usize> = rows.iter().filter(|row| row.time.is_some()).map(|row| row.station).collect();
+    let names: Vec<String> = stations.iter().map(usize::to_string).collect();
+    let took = |row: &Row| match row.time {
+        Some(Time::Took(cycles)) => Some(cycles),
+        _ => None,
+    };
+    let times: BTreeSet<u64> = rows.iter().filter_map(took).collect();
+    let what = match (times.first(), times.last()) {
+        (Some(&least), Some(&most)) => format!("took {} to {} ms", milliseconds(least), milliseconds(most)),
+        _ => "had no end".to_string(),
+    };
+    let (station, limit) = (if names.len() == 1 { "station" } else { "stations" }, milliseconds(LIMIT.into()));
+    match names.is_empty() {
+        true => String::new(),
+        false => format!("by the 82C53 of {station} {} a tag {what}, of {limit} ms allowed\n", names.join(" and ")),
+    }
+}
+
 pub fn csv(rows: &[Row]) -> String {
-    let mut text = String::from("station,cycle,seconds,tag,noisy_samples,verdict\n");
+    let mut text = String::from("station,cycle,seconds,tag,noisy_samples,ms_by_82c53,verdict\n");
     for row in rows {
         text += &fields(row).join(",");
         text += "\n";

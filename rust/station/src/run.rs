@@ -1,13 +1,15 @@
 //! A run of stations side by side: what each is sent, and what it reads.
-use crate::chip::Chip;
+use crate::chips::Chips;
 use crate::frame::{frame, Noise, Stretch, BIT, BITS, SAMPLES};
 use crate::reader::Reader;
+use crate::timing::{Time, Timing, CARRIAGE_RETURN};
 use crate::vcd::Waveform;
 use random::Rng;
 
-/// Digits of a tag, and the byte that ends it.
+/// Digits of a tag.
 pub const DIGITS: usize = 15;
-const CARRIAGE_RETURN: u8 = b'\r';
+/// The stations that have an 82C53.
+pub const WITH_INTERVAL: [usize; 2] = [1, 2];
 
 /// What is sent to the stations.
 #[derive(Clone, PartialEq, Debug)]
@@ -36,6 +38,8 @@ pub struct Row {
     pub noisy_samples: u64,
     /// How often an interrupt woke the station.
     pub woken: usize,
+    /// What the 82C53 says of it, where the station has one.
+    pub time: Option<Time>,
 }
 
 impl Row {
@@ -51,9 +55,10 @@ pub struct Station<C> {
     rng: Rng,
 }
 
-impl<C: Chip> Station<C> {
+impl<C: Chips> Station<C> {
     pub fn new(number: usize, seed: u64) -> Station<C> {
-        Station { number, reader: Reader::new(), rng: Rng::part(seed, number as u64) }
+        let reader = if WITH_INTERVAL.contains(&number) { Reader::with_interval() } else { Reader::new() };
+        Station { number, reader, rng: Rng::part(seed, number as u64) }
     }
 
     fn random_tag(&mut self) -> String {
@@ -69,8 +74,8 @@ impl<C: Chip> Station<C> {
         })
     }
 
-    /// The idle gap, and then the tag and its carriage return. Before each frame there is a pause of less than two bits, so that every
-    /// phase comes up.
+    /// The idle gap, and then, with a fish in the tunnel, the tag and its carriage return. Before each frame there is a pause of less
+    /// than two bits, so that every phase comes up.
     pub fn read_tag(&mut self, plan: &Plan, chosen: Option<&String>) -> Row {
         let sent = chosen.cloned().unwrap_or_else(|| self.random_tag());
         let mut noisy_samples = 0;
@@ -79,6 +84,7 @@ impl<C: Chip> Station<C> {
         self.reader.hold(Stretch { rxd: 1, cycles: plan.gap - lead });
         self.reader.watch(true);
         self.reader.hold(Stretch { rxd: 1, cycles: lead });
+        self.reader.fish(true);
         for byte in sent.bytes().chain([CARRIAGE_RETURN]) {
             self.reader.hold(Stretch { rxd: 1, cycles: self.rng.below(2 * BIT) });
             let noise = self.noise(plan.noise);
@@ -88,12 +94,14 @@ impl<C: Chip> Station<C> {
             }
         }
         self.reader.hold(Stretch { rxd: 1, cycles: BIT });
+        self.reader.fish(false);
         let received = self.reader.take_received();
         let cycle = received.last().map_or(0, |last| last.cycle);
         let woken = received.iter().filter(|r| r.woke).count();
         let bytes: Vec<u8> = received.iter().map(|r| r.byte).collect();
         let tag = shown(&bytes);
-        Row { station: self.number, cycle, tag, sent, noisy_samples, woken }
+        let time = self.reader.timing.as_mut().map(Timing::take_time);
+        Row { station: self.number, cycle, tag, sent, noisy_samples, woken, time }
     }
 }
 
@@ -107,11 +115,12 @@ fn shown(bytes: &[u8]) -> String {
     bytes.iter().map(digit).collect::<String>() + end
 }
 
-/// Runs the plan, a tag at a time over all stations; the rows come in the order of their cycles. The first station draws the waveform.
-pub fn run<C: Chip>(plan: &Plan, draw: bool, mut progress: impl FnMut(u64)) -> (Vec<Row>, Option<Waveform>) {
+/// Runs the plan, a tag at a time over all stations; the rows come in the order of their cycles. One station may draw a waveform.
+pub fn run<C: Chips>(plan: &Plan, drawn: Option<usize>, mut progress: impl FnMut(u64)) -> (Vec<Row>, Option<Waveform>) {
     let mut stations: Vec<Station<C>> = (1..=plan.stations).map(|number| Station::new(number, plan.seed)).collect();
-    if draw {
-        stations[0].reader.waveform = Some(Waveform::new(1));
+    if let Some(number) = drawn {
+        let reader = &mut stations[number - 1].reader;
+        reader.waveform = Some(Waveform::new(number, reader.timing.is_some()));
     }
     let mut rows = Vec::new();
     for number in 0..plan.tags {
@@ -121,5 +130,5 @@ pub fn run<C: Chip>(plan: &Plan, draw: bool, mut progress: impl FnMut(u64)) -> (
         progress(number + 1);
     }
     rows.sort_by_key(|row| (row.cycle, row.station));
-    (rows, stations.swap_remove(0).reader.waveform)
+    (rows, stations.into_iter().find_map(|station| station.reader.waveform))
 }

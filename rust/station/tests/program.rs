@@ -25,11 +25,12 @@ fn eleven_stations_read_what_was_sent() {
     }
     let cycles: Vec<u64> = rows.iter().map(|row| row[1].parse().unwrap()).collect();
     assert!(cycles.is_sorted() && cycles[0] > 9_216 + 16 * 960 - 96);
-    assert!(rows.iter().all(|row| row[3].len() == 15 && row[5..] == ["as", "sent"]));
+    assert!(rows.iter().all(|row| row[3].len() == 15 && row[6..] == ["as", "sent"]));
     let noisy: u64 = rows.iter().map(|row| row[4].parse::<u64>().unwrap()).sum();
     assert!(noisy > 20);
     let summary = format!("22 tags, 330 digits, all as sent; {noisy} noisy samples; woken from idle 352 times");
     assert_eq!(out.lines().last(), Some(summary.as_str()));
+    assert_eq!(out.lines().count(), 1 + 22 + 2);
     let progress = text(&ran.stderr);
     assert!(progress.starts_with("3 of 22 tags,") && progress.contains("\n22 of 22 tags,"), "{progress}");
 }
@@ -41,7 +42,7 @@ fn the_csv_is_the_table() {
     assert!(ran.status.success());
     let table = text(&ran.stdout);
     let csv = std::fs::read_to_string(&file).unwrap();
-    assert_eq!(csv.lines().next(), Some("station,cycle,seconds,tag,noisy_samples,verdict"));
+    assert_eq!(csv.lines().next(), Some("station,cycle,seconds,tag,noisy_samples,ms_by_82c53,verdict"));
     assert_eq!(csv.lines().count(), 6);
     for (row, line) in table.lines().skip(1).zip(csv.lines().skip(1)) {
         assert_eq!(row.split_whitespace().collect::<Vec<&str>>().join(","), line.replace("as sent", "as,sent"));
@@ -64,6 +65,55 @@ fn chosen_tags() {
     assert!(out.ends_with("2 tags, 30 digits, all as sent; 0 noisy samples; woken from idle 32 times\n"));
 }
 
+/// The rows of a table as words; its first line and the last two are none.
+fn rows(table: &str) -> Vec<Vec<&str>> {
+    let lines: Vec<&str> = table.lines().collect();
+    lines[1..lines.len() - 2].iter().map(|line| line.split_whitespace().collect()).collect()
+}
+
+fn milliseconds(time: &str) -> f64 {
+    time.parse().expect("milliseconds")
+}
+
+/// Two stations have an 82C53, whatever the number of stations: 15 frames and pauses of less than two bits are 15.625 to 18.75 ms.
+#[test]
+fn tags_are_timed_where_there_is_an_82c53() {
+    for (line, stations) in [
+        ("--tags 33 --gap 0.01", "stations 1 and 2"),
+        ("--tags 5 --gap 2 --stations 1", "station 1"),
+        ("--stations 40", "stations 1 and 2"),
+    ] {
+        let out = text(&station(line).stdout);
+        let mut times = Vec::new();
+        for row in rows(&out) {
+            match row[0] {
+                "1" | "2" => times.push(row[5]),
+                _ => assert_eq!(row[5], "-", "{row:?}"),
+            }
+        }
+        times.sort_by(|a, b| milliseconds(a).total_cmp(&milliseconds(b)));
+        assert!(times.iter().all(|time| (15.6..18.8).contains(&milliseconds(time))), "{times:?}");
+        let [least, .., most] = times[..] else { panic!("{out}") };
+        let said = format!("by the 82C53 of {stations} a tag took {least} to {most} ms, of 20.000 ms allowed");
+        assert_eq!(out.lines().rev().nth(1), Some(said.as_str()));
+    }
+}
+
+/// Where noise spoils the carriage return there is no time, and the table says so. The next tag is timed from its own first
+/// byte, also where it begins within the limit, and where a byte is received between the two.
+#[test]
+fn a_tag_that_has_no_end() {
+    for line in ["--stations 2 --gap 0.03", "--stations 1 --gap 0.0001", "--stations 1 --gap 0.003"] {
+        let out = text(&station(&format!("{line} --tags 300 --noise 3 --seed 2")).stdout);
+        let rows = rows(&out);
+        let (open, timed): (Vec<&Vec<&str>>, Vec<&Vec<&str>>) = rows.iter().partition(|row| row[5] == "no-end");
+        assert_eq!((open.len() + timed.len(), open.is_empty()), (300, false), "{out}");
+        assert!(open.iter().all(|row| row[3].ends_with("...")), "{out}");
+        assert!(timed.iter().any(|row| row[6..] == ["as", "sent"]), "{out}");
+        assert!(timed.iter().all(|row| (15.6..18.8).contains(&milliseconds(row[5]))), "{out}");
+    }
+}
+
 #[test]
 fn a_wrong_digit_is_found() {
     let ran = station("--tags 11 --gap 0.01 --noise 2");
@@ -81,6 +131,7 @@ fn bad_command_lines() {
         ("--frequency 12", "unknown option '--frequency'"),
         ("--tags", "--tags wants a value"),
         ("--stations 0", "--stations wants a whole number"),
+        ("--vcd x.vcd --vcd-station 12", "--vcd-station 12 is not one of the 11 stations"),
     ];
     for (line, message) in lines {
         let ran = station(line);

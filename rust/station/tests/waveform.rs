@@ -1,4 +1,5 @@
-//! The waveform, read back: the start bit, the samples in the middle of each bit, and RI of every frame.
+//! The waveform, read back: the start bit, the samples in the middle of each bit, and RI of every frame; the lamp and the limit of a tag
+//! by the 82C53.
 use std::collections::HashMap;
 use std::path::Path;
 use std::process::Command;
@@ -122,12 +123,50 @@ fn every_frame_is_found() {
 #[test]
 fn the_rest_of_the_chip() {
     let vcd = waveform("rest.vcd", "--gap 0.01 --stations 3 --tags 3 --noise 0");
-    assert_eq!(vcd.changes.len(), 22);
-    for still in ["INT0", "INT1", "T0", "T1", "T2", "T2EX", "line", "TI", "TF0", "IE0", "IE1", "TF2", "EXF2", "send_position"] {
+    assert_eq!(vcd.changes.len(), 28);
+    let of_the_chip = ["INT0", "INT1", "T0", "T1", "T2", "T2EX", "line", "TI", "TF0", "IE0", "IE1", "TF2", "EXF2", "send_position"];
+    for still in of_the_chip.into_iter().chain(["GATE1", "GATE2", "OUT2"]) {
         assert_eq!(vcd.changes[still].len(), 1, "{still} never changes");
     }
     assert_eq!(vcd.at("line", 1 << 30), 1);
     assert_eq!(vcd.at("TF1", 1 << 30), 1);
     assert!(vcd.changes["send_counter"].len() > 100, "the send counter runs at rest too");
     assert_eq!(vcd.changes["RI"].iter().filter(|change| change.1 == 1).count(), 16, "station 1 alone");
+}
+
+/// Counter 0 flashes the lamp every 4,608 cycles while a fish is in the tunnel, each time for one; the output of counter 1 is high once the
+/// limit of a tag is over, and falls with the first byte of the next.
+#[test]
+fn the_82c53() {
+    const FLASH: i64 = 4_608;
+    let vcd = waveform("interval.vcd", "--gap 0.03 --stations 2 --tags 6 --seed 4 --vcd-station 2");
+    let [rises, falls] = [1, 0].map(|level| {
+        let changes = vcd.changes["GATE0"].iter().filter(|change| change.1 == level);
+        changes.map(|change| change.0).collect::<Vec<i64>>()
+    });
+    assert_eq!((rises.len(), falls.len()), (3, 3), "low in the lead of each tag, high from its first frame on");
+    let starts: Vec<i64> = vcd.changes["RXD"].iter().filter(|change| change.1 == 0).map(|change| change.0).collect();
+    let mut flashes = 0;
+    for (tag, &rise) in rises.iter().enumerate() {
+        let end = falls.get(tag + 1).copied().unwrap_or(i64::MAX);
+        assert!(starts.iter().any(|start| (rise..rise + 2 * BIT).contains(start)), "a start bit within two bits");
+        assert_eq!(vcd.at("OUT0", rise - 1), 1);
+        let low: Vec<i64> = vcd.changes["OUT0"].iter().filter(|c| c.1 == 0 && (rise..end).contains(&c.0)).map(|c| c.0).collect();
+        assert_eq!(low, [1, 2, 3].map(|flash| rise + flash * FLASH - 1));
+        assert!(low.iter().all(|&cycle| vcd.at("OUT0", cycle + 1) == 1));
+        flashes += low.len();
+
+        let first = vcd.becomes("RI", 1, rise).expect("the first byte");
+        assert_eq!(vcd.at("OUT1", first), u64::from(tag > 0), "the limit of the tag before is over");
+        assert_eq!(vcd.at("OUT1", first + 2), 0, "it starts once the interrupt is taken");
+    }
+    assert_eq!(vcd.changes["OUT0"].iter().filter(|change| change.1 == 0).count(), flashes, "no flash without a fish");
+}
+
+/// A station without an 82C53.
+#[test]
+fn another_station() {
+    let vcd = waveform("another.vcd", "--gap 0.01 --stations 3 --tags 6 --noise 0 --vcd-station 3");
+    assert_eq!(vcd.changes.len(), 22);
+    assert_eq!(vcd.changes["RI"].iter().filter(|change| change.1 == 1).count(), 32, "station 3 alone");
 }

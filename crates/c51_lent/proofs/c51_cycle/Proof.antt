@@ -15,7 +15,8 @@ use Rattle.c51_run.proofs.cycle.Symbol.{name as #c51-run·cycle}
 use Rattle.c51_run.proofs.cycle.Met as cycle-thm
 use Rattle.c51_lent.proofs.LineAnswer as N
 use Rattle.c51_lent.proofs.LineAnswer.Laws as N′
-use Rattle.lent.proofs.Lent.{device-val, in-field, cycle-answer-carries, cycle-code, cycle-line, Bytes, two-bytes, number, Passed, values, in-order, asks-nothing, exported}
+use Rattle.lent.proofs.Lent.{value, in-field, Bytes, none, _and_, some-bytes, number, Passed, values, in-order, asks-nothing, exported}
+use Rattle.c51_lent.proofs.Structs.{device, cycle-answer-carries, cycle-code, cycle-line}
 use Rattle.c51_lent.proofs.c51_cycle.Key.{name as #c51-lent·c51-cycle}
 use Rattle.c51_lent.proofs.c51_cycle as lent
 use Rattle.c51_lent.proofs.c51_cycle.Statement as stated
@@ -24,22 +25,22 @@ use Rattle.c51_lent.proofs.c51_cycle.Code as code
 abbrev params : List (Passed 1)
 params = number w8 ∷ []
 
-abbrev numbers : Bytes N.the-type
+abbrev numbers : Bytes (cycle-code and cycle-line and none) N.the-type
 numbers = record {
-  pair = λ x y. record { code = x; line = y };
+  make = λ r. record { code = r .code; line = r .line };
   plains = N′.the-plain;
-  typed = λ x y x-fits y-fits. (tt, (record { fits = x-fits }, (record { fits = y-fits }, tt)));
-  is = λ x y x-fits y-fits. LL.owes N.the-type N′.the-laws (record { code = x; line = y }) ((refl, x-fits), ((refl, y-fits), tt));
+  typed = λ r fits. (tt, (record { fits = fits .0 }, (record { fits = fits .1 .0 }, tt)));
+  is = λ r fits. LL.owes N.the-type N′.the-laws (record { code = r .code; line = r .line }) ((refl, fits .0), ((refl, fits .1 .0), tt));
 }
 
 pub c51-cycle-spec : {M : Type 1} → stated.statement M
 unfolding code.routine
 c51-cycle-spec 𝓤 H 𝓜 𝓖 𝓡 =
-    exported 𝓤 H 𝓜 𝓖 𝓡 code.env #c51-lent·c51-cycle (in-field 2 cycle-answer-carries) (in-order params R.mir) (two-bytes 0 1 cycle-code cycle-line N.the-type numbers) #c51-run·cycle (code.unfolded 𝓤 H 𝓜 𝓡) (lent.clauses 𝓤 H (𝓖 .A) (𝓜 .mem) (𝓡 .run))
+    exported 𝓤 H 𝓜 𝓖 𝓡 code.env #c51-lent·c51-cycle (in-field 2 cycle-answer-carries) (in-order params R.mir) (some-bytes (cycle-code and cycle-line and none) N.the-type numbers) #c51-run·cycle (code.unfolded 𝓤 H 𝓜 𝓡) (lent.clauses 𝓤 H (𝓖 .A) (𝓜 .mem) (𝓡 .run))
     (tripleOf 𝓤 H (𝓖 .A) cycle.signature (cycle.spec 𝓤 H (𝓖 .A) (𝓜 .mem) (𝓡 .run))) cycle-def.routine code.calls-c51-run·cycle (cycle-thm.met 𝓤 H 𝓜 𝓖 𝓡)
     record {
       Told = λ κs h a r ws. r ≡ cycleAnswer h (a .0);
-      to = λ κs qs h a. ((κs .1, qs .1, tt, (h, a), (device-val h ∷ [], values κs params a)), tt);
+      to = λ κs qs h a. ((κs .1, qs .1, tt, (h, a), (value device h ∷ [], values κs params a)), tt);
       args = λ κs qs h a. refl;
       asks = λ κs qs h a. asks-nothing 𝓤 _;
       gives = λ κs qs h a v. id⊢ 𝓤 _;

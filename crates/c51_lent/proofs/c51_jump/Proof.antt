@@ -12,7 +12,8 @@ use Rattle.c51_run.proofs.jump as jump
 use Rattle.c51_run.proofs.jump.Symbol as jump-def
 use Rattle.c51_run.proofs.jump.Symbol.{name as #c51-run·jump}
 use Rattle.c51_run.proofs.jump.Met as jump-thm
-use Rattle.lent.proofs.Lent.{device-val, in-field, run-answer-carries, run-code, one-byte, number, Passed, values, in-order, asks-nothing, exported}
+use Rattle.lent.proofs.Lent.{value, in-field, one-byte, number, Passed, values, in-order, asks-nothing, exported}
+use Rattle.c51_lent.proofs.Structs.{device, run-answer-carries, run-code}
 use Rattle.c51_lent.proofs.c51_jump.Key.{name as #c51-lent·c51-jump}
 use Rattle.c51_lent.proofs.c51_jump as lent
 use Rattle.c51_lent.proofs.c51_jump.Statement as stated
@@ -28,7 +29,7 @@ c51-jump-spec 𝓤 H 𝓜 𝓖 𝓡 =
     (tripleOf 𝓤 H (𝓖 .A) jump.signature (jump.spec 𝓤 H (𝓖 .A) (𝓜 .mem) (𝓡 .run))) jump-def.routine code.calls-c51-run·jump (jump-thm.met 𝓤 H 𝓜 𝓖 𝓡)
     record {
       Told = λ κs h a r ws. r ≡ jumpAnswer h (a .0) (a .1 .0);
-      to = λ κs qs h a. ((κs .1, qs .1, tt, (h, a), (device-val h ∷ [], values κs params a)), tt);
+      to = λ κs qs h a. ((κs .1, qs .1, tt, (h, a), (value device h ∷ [], values κs params a)), tt);
       args = λ κs qs h a. refl;
       asks = λ κs qs h a. asks-nothing 𝓤 _;
       gives = λ κs qs h a v. id⊢ 𝓤 _;

@@ -20,7 +20,8 @@ use Rattle.lists.proofs.replay.Symbol as replay-def
 use Rattle.lists.proofs.replay.Symbol.{name as #lists·replay}
 use Rattle.lists.proofs.replay.Met as replay-thm
 use Rattle.lent.proofs.Locals.{in-snd, first-cell}
-use Rattle.lent.proofs.Lent.{device-val, itself, no-result, read-slice, altered-slice, Passed, Others, values, vals, Way, asks-nothing, exported}
+use Rattle.lent.proofs.Lent.{value, itself, no-result, read-slice, altered-slice, Passed, Others, values, vals, Way, asks-nothing, exported}
+use Rattle.c51_lent.proofs.Structs.{device}
 use Rattle.c51_lent.proofs.c51_replay.Key.{name as #c51-lent·c51-replay}
 use Rattle.c51_lent.proofs.c51_replay as lent
 use Rattle.c51_lent.proofs.c51_replay.Statement as stated
@@ -36,7 +37,7 @@ answers κs a = sliceVal (a .1 .1 .0 .ptr) (length (a .1 .1 .0 .now))
 abbrev start : (κs : Lfts 4) → Others κs params → Val
 start κs a = vptr (a .1 .1 .0 .ptr .0) (a .1 .1 .0 .ptr .1)
 
-abbrev lent-on : Way params R.mir
+abbrev lent-on : Way device params R.mir
 lent-on = record {
   more = tyRef erased mut (tyInt w64) ∷ sliceTy (tyRef erased mut (tyInt w64)) ∷ [];
   before = λ rest.
@@ -65,7 +66,7 @@ c51-replay-spec 𝓤 H 𝓜 𝓖 𝓡 =
     (tripleOf 𝓤 H (𝓖 .A) replay.signature (replay.spec 𝓤 H (𝓖 .A) (𝓜 .mem) (𝓡 .run))) replay-def.routine code.calls-lists·replay (replay-thm.met 𝓤 H 𝓜 𝓖 𝓡)
     record {
       Told = λ κs h a r ws. Replayed h (script (a .0 .now) (a .1 .0 .now)) (a .1 .1 .0 .now) r (ws .1 .1 .0);
-      to = λ κs qs h a. ((κs .1, qs .1, tt, (h, a), (device-val h ∷ [], values κs params a)), tt);
+      to = λ κs qs h a. ((κs .1, qs .1, tt, (h, a), (value device h ∷ [], values κs params a)), tt);
       args = λ κs qs h a. refl;
       asks = λ κs qs h a. asks-nothing 𝓤 _;
       gives = λ κs qs h a v. id⊢ 𝓤 _;

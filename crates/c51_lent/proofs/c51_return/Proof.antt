@@ -11,7 +11,8 @@ use Rattle.c51_interrupt.proofs.reti as reti
 use Rattle.c51_interrupt.proofs.reti.Symbol as reti-def
 use Rattle.c51_interrupt.proofs.reti.Symbol.{name as #c51-interrupt·reti}
 use Rattle.c51_interrupt.proofs.reti.Met as reti-thm
-use Rattle.lent.proofs.Lent.{device-val, in-field, answer-carries, answer-code, one-byte, Passed, values, in-order, asks-nothing, exported}
+use Rattle.lent.proofs.Lent.{value, in-field, one-byte, Passed, values, in-order, asks-nothing, exported}
+use Rattle.c51_lent.proofs.Structs.{device, answer-carries, answer-code}
 use Rattle.c51_lent.proofs.c51_return.Key.{name as #c51-lent·c51-return}
 use Rattle.c51_lent.proofs.c51_return as lent
 use Rattle.c51_lent.proofs.c51_return.Statement as stated
@@ -27,7 +28,7 @@ c51-return-spec 𝓤 H 𝓜 𝓖 𝓡 =
     (tripleOf 𝓤 H (𝓖 .A) reti.signature (reti.spec 𝓤 H (𝓖 .A) (𝓜 .mem) (𝓡 .run))) reti-def.routine code.calls-c51-interrupt·reti (reti-thm.met 𝓤 H 𝓜 𝓖 𝓡)
     record {
       Told = λ κs h a r ws. r ≡ returnAnswer h;
-      to = λ κs qs h a. ((κs .1, qs .1, tt, (h, a), (device-val h ∷ [], values κs params a)), tt);
+      to = λ κs qs h a. ((κs .1, qs .1, tt, (h, a), (value device h ∷ [], values κs params a)), tt);
       args = λ κs qs h a. refl;
       asks = λ κs qs h a. asks-nothing 𝓤 _;
       gives = λ κs qs h a v. id⊢ 𝓤 _;

@@ -14,7 +14,8 @@ use Rattle.c51_interrupt.proofs.take.Symbol.{name as #c51-interrupt·take}
 use Rattle.c51_interrupt.proofs.take.Met as take-thm
 use Rattle.c51_lent.proofs.VectorAnswer as N
 use Rattle.c51_lent.proofs.VectorAnswer.Laws as N′
-use Rattle.lent.proofs.Lent.{device-val, in-field, take-answer-carries, take-code, take-vector, Bytes, two-bytes, Passed, values, in-order, asks-nothing, exported}
+use Rattle.lent.proofs.Lent.{value, in-field, Bytes, none, _and_, some-bytes, Passed, values, in-order, asks-nothing, exported}
+use Rattle.c51_lent.proofs.Structs.{device, take-answer-carries, take-code, take-vector}
 use Rattle.c51_lent.proofs.c51_take.Key.{name as #c51-lent·c51-take}
 use Rattle.c51_lent.proofs.c51_take as lent
 use Rattle.c51_lent.proofs.c51_take.Statement as stated
@@ -23,22 +24,22 @@ use Rattle.c51_lent.proofs.c51_take.Code as code
 abbrev params : List (Passed 1)
 params = []
 
-abbrev numbers : Bytes N.the-type
+abbrev numbers : Bytes (take-code and take-vector and none) N.the-type
 numbers = record {
-  pair = λ x y. record { code = x; vector = y };
+  make = λ r. record { code = r .code; vector = r .vector };
   plains = N′.the-plain;
-  typed = λ x y x-fits y-fits. (tt, (record { fits = x-fits }, (record { fits = y-fits }, tt)));
-  is = λ x y x-fits y-fits. LL.owes N.the-type N′.the-laws (record { code = x; vector = y }) ((refl, x-fits), ((refl, y-fits), tt));
+  typed = λ r fits. (tt, (record { fits = fits .0 }, (record { fits = fits .1 .0 }, tt)));
+  is = λ r fits. LL.owes N.the-type N′.the-laws (record { code = r .code; vector = r .vector }) ((refl, fits .0), ((refl, fits .1 .0), tt));
 }
 
 pub c51-take-spec : {M : Type 1} → stated.statement M
 unfolding code.routine
 c51-take-spec 𝓤 H 𝓜 𝓖 𝓡 =
-    exported 𝓤 H 𝓜 𝓖 𝓡 code.env #c51-lent·c51-take (in-field 2 take-answer-carries) (in-order params R.mir) (two-bytes 0 1 take-code take-vector N.the-type numbers) #c51-interrupt·take (code.unfolded 𝓤 H 𝓜 𝓡) (lent.clauses 𝓤 H (𝓖 .A) (𝓜 .mem) (𝓡 .run))
+    exported 𝓤 H 𝓜 𝓖 𝓡 code.env #c51-lent·c51-take (in-field 2 take-answer-carries) (in-order params R.mir) (some-bytes (take-code and take-vector and none) N.the-type numbers) #c51-interrupt·take (code.unfolded 𝓤 H 𝓜 𝓡) (lent.clauses 𝓤 H (𝓖 .A) (𝓜 .mem) (𝓡 .run))
     (tripleOf 𝓤 H (𝓖 .A) take.signature (take.spec 𝓤 H (𝓖 .A) (𝓜 .mem) (𝓡 .run))) take-def.routine code.calls-c51-interrupt·take (take-thm.met 𝓤 H 𝓜 𝓖 𝓡)
     record {
       Told = λ κs h a r ws. r ≡ takeAnswer h;
-      to = λ κs qs h a. ((κs .1, qs .1, tt, (h, a), (device-val h ∷ [], values κs params a)), tt);
+      to = λ κs qs h a. ((κs .1, qs .1, tt, (h, a), (value device h ∷ [], values κs params a)), tt);
       args = λ κs qs h a. refl;
       asks = λ κs qs h a. asks-nothing 𝓤 _;
       gives = λ κs qs h a v. id⊢ 𝓤 _;

@@ -12,7 +12,8 @@ use Rattle.c51_run.proofs.trace as trace
 use Rattle.c51_run.proofs.trace.Symbol as trace-def
 use Rattle.c51_run.proofs.trace.Symbol.{name as #c51-run·trace}
 use Rattle.c51_run.proofs.trace.Met as trace-thm
-use Rattle.lent.proofs.Lent.{device-val, in-field, run-answer-carries, run-code, one-byte, read-slice, Passed, values, in-order, asks-nothing, exported}
+use Rattle.lent.proofs.Lent.{value, in-field, one-byte, read-slice, Passed, values, in-order, asks-nothing, exported}
+use Rattle.c51_lent.proofs.Structs.{device, run-answer-carries, run-code}
 use Rattle.c51_lent.proofs.c51_trace.Key.{name as #c51-lent·c51-trace}
 use Rattle.c51_lent.proofs.c51_trace as lent
 use Rattle.c51_lent.proofs.c51_trace.Statement as stated
@@ -28,7 +29,7 @@ c51-trace-spec 𝓤 H 𝓜 𝓖 𝓡 =
     (tripleOf 𝓤 H (𝓖 .A) trace.signature (trace.spec 𝓤 H (𝓖 .A) (𝓜 .mem) (𝓡 .run))) trace-def.routine code.calls-c51-run·trace (trace-thm.met 𝓤 H 𝓜 𝓖 𝓡)
     record {
       Told = λ κs h a r ws. r ≡ traceAnswer h (a .0 .now);
-      to = λ κs qs h a. ((κs .1, qs .1, tt, (h, a), (device-val h ∷ [], values κs params a)), tt);
+      to = λ κs qs h a. ((κs .1, qs .1, tt, (h, a), (value device h ∷ [], values κs params a)), tt);
       args = λ κs qs h a. refl;
       asks = λ κs qs h a. asks-nothing 𝓤 _;
       gives = λ κs qs h a v. id⊢ 𝓤 _;

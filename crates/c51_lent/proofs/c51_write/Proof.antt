@@ -12,7 +12,8 @@ use Rattle.c51_access.proofs.write as write
 use Rattle.c51_access.proofs.write.Symbol as write-def
 use Rattle.c51_access.proofs.write.Symbol.{name as #c51-access·write}
 use Rattle.c51_access.proofs.write.Met as write-thm
-use Rattle.lent.proofs.Lent.{device-val, in-field, answer-carries, answer-code, one-byte, number, Passed, values, in-order, asks-nothing, exported}
+use Rattle.lent.proofs.Lent.{value, in-field, one-byte, number, Passed, values, in-order, asks-nothing, exported}
+use Rattle.c51_lent.proofs.Structs.{device, answer-carries, answer-code}
 use Rattle.c51_lent.proofs.c51_write.Key.{name as #c51-lent·c51-write}
 use Rattle.c51_lent.proofs.c51_write as lent
 use Rattle.c51_lent.proofs.c51_write.Statement as stated
@@ -28,7 +29,7 @@ c51-write-spec 𝓤 H 𝓜 𝓖 𝓡 =
     (tripleOf 𝓤 H (𝓖 .A) write.signature (write.spec 𝓤 H (𝓖 .A) (𝓜 .mem) (𝓡 .run))) write-def.routine code.calls-c51-access·write (write-thm.met 𝓤 H 𝓜 𝓖 𝓡)
     record {
       Told = λ κs h a r ws. r ≡ writeAnswer h (a .0) (a .1 .0);
-      to = λ κs qs h a. ((κs .1, qs .1, tt, (h, a), (device-val h ∷ [], values κs params a)), tt);
+      to = λ κs qs h a. ((κs .1, qs .1, tt, (h, a), (value device h ∷ [], values κs params a)), tt);
       args = λ κs qs h a. refl;
       asks = λ κs qs h a. asks-nothing 𝓤 _;
       gives = λ κs qs h a v. id⊢ 𝓤 _;

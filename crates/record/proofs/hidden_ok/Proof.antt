@@ -1,21 +1,16 @@
 -- `hidden_ok` is the definition: the tests joined from the left. The received byte and the cycle number are within their ranges by their
 -- types, and are not tested.
 use mathlib.Core.Bool.{true}
-use mathlib.Core.List.{List, map, _++_}
-use Prim.Native.Nat.{ℕ, suc, _≤_, _-_, _^_}
+use mathlib.Core.List.{map}
+use Prim.Native.Nat.{_≤_, _-_, _^_}
 use native.Mathlib.Omega.{arith}
 use lib.Dec.{leb}
-use lib.ListN.{take, drop}
 use borrow.Author.Tests.{le-leb}
 use borrow.Author.Needs.{needs}
 use Rattle.machine.specs.Record.{Hidden, hiddenFields}
-use Rattle.record.proofs.Tests.{joined}
+use Rattle.machine.proofs.Choices.{joined, without}
 use Rattle.record.proofs.hidden_ok.Statement.{statement}
 use Rattle.record.proofs.hidden_ok.Tie as tie
-
--- a row without its k-th element
-abbrev without : ℕ → List Hidden → List Hidden
-without k hs = take k hs ++ drop (suc k) hs
 
 returns : tie.Need-returns
 unfolding hiddenFields

@@ -6,7 +6,8 @@ use Prim.Native.Nat.{ℕ}
 use lib.Dec.{leb}
 use borrow.Author.Needs.{needs}
 use Rattle.machine.specs.Record.{levelsOk}
-use Rattle.record.proofs.Tests.{joined, elements, whole}
+use Rattle.machine.proofs.Choices.{joined}
+use Rattle.record.proofs.Tests.{elements, whole}
 use Rattle.record.proofs.levels_ok.Statement.{statement}
 use Rattle.record.proofs.levels_ok.Tie as tie
 

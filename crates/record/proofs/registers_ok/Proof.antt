@@ -4,7 +4,8 @@ use borrow.Author.Needs.{needs}
 use Rattle.machine.specs.Registers.{table}
 use Rattle.machine.specs.Record.{registers}
 use Rattle.registers.specs.Places.{rowAt}
-use Rattle.record.proofs.Tests.{joined, registerTests}
+use Rattle.machine.proofs.Choices.{joined}
+use Rattle.record.proofs.Tests.{registerTests}
 use Rattle.record.proofs.registers_ok.Statement.{statement}
 use Rattle.record.proofs.registers_ok.Tie as tie
 

@@ -6,7 +6,7 @@ use std::process::exit;
 
 const USAGE: &str = "usage: reach <SCRIPT
   reads a call script on standard input, follows it with the model, and writes it with only those jumps, look aheads,
-  wake looks and trace entries shortened that take too many cycles before the chip rests
+  wake looks and trace entries shortened that take too many cycles or pulses before the chip or the 82C53 rests
   --help  print this";
 
 fn fail(message: &str) -> ! {

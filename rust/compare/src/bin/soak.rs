@@ -1,4 +1,4 @@
-//! The soak: random lists and raw records through the library and the model for as long as wanted.
+//! The soak: random lists and raw records, of both chips, through the library and the model for as long as wanted.
 use compare::lists::{run_list, run_record, script, styles};
 use compare::pair::{Pair, Tally};
 use compare::STAGE;
@@ -9,7 +9,7 @@ use std::time::{Duration, Instant, SystemTime, UNIX_EPOCH};
 
 const USAGE: &str = "usage: soak [--cycles N] [--records N] [--seed S]
   --cycles N   cycles of mixed lists to compare (1000000000)
-  --records N  raw records to compare, every call on each (10000000)
+  --records N  boards of raw records to compare, every call on each (10000000)
   --seed S     the seed (taken from the clock)
   --help       print this";
 

@@ -1,0 +1,4 @@
+pub mod Joined
+pub mod PowerDown
+pub mod Promises
+pub mod Refused

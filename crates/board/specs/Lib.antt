@@ -1,0 +1,4 @@
+pub mod Board
+pub mod Lists
+pub mod PowerDown
+pub mod Joined

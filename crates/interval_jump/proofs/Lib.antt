@@ -1,0 +1,3 @@
+pub mod Down
+pub mod Jumps
+pub mod Laps

@@ -1,0 +1,2 @@
+pub mod Jump
+pub mod Laps

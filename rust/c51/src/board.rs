@@ -1,0 +1,51 @@
+//! The calls of a board that has both chips.
+use crate::{answer, raw, Board, Device, Interval, Refusal};
+
+impl Board {
+    /// Both chips after reset, the device of kind 51 or 52.
+    pub fn reset(kind: u8) -> Result<Board, Refusal> {
+        Ok(Board { device: Device::reset(kind)?, interval: Interval::reset() })
+    }
+
+    /// One machine cycle and one pulse; gives the output line and the outputs as they leave them. Power-down stops the chip alone:
+    ///
+    /// ```
+    /// use c51::{address, control, pcon, port, Board, GATES_HIGH, PINS_HIGH};
+    ///
+    /// let mut board = Board::reset(52)?;
+    /// board.interval.write(port::CONTROL, control::SELECT0 | control::LOW | control::MODE2)?;
+    /// board.interval.write(port::COUNTER0, 2)?; // output 0 falls in every second pulse
+    /// assert_eq!(board.cycle(PINS_HIGH, GATES_HIGH)?, (1, 1));
+    /// assert_eq!(board.cycle(PINS_HIGH, GATES_HIGH)?, (1, 0));
+    /// board.device.write(address::PCON, pcon::PD)?;
+    /// assert_eq!(board.cycle(PINS_HIGH, GATES_HIGH)?, (1, 1));
+    /// assert_eq!(board.cycle(PINS_HIGH, GATES_HIGH)?, (1, 0));
+    /// assert_eq!(board.device.cycle, 2);
+    /// # Ok::<(), c51::Refusal>(())
+    /// ```
+    #[inline]
+    pub fn cycle(&mut self, pins: u8, gates: u8) -> Result<(u8, u8), Refusal> {
+        let a = raw::c51_board_cycle(self, pins, gates);
+        answer(a.code, (a.line, a.outputs))
+    }
+
+    /// n cycles and n pulses with one pin byte and one gate byte; gives the outputs as they leave them.
+    ///
+    /// ```
+    /// use c51::{control, out, port, Board, GATES_HIGH, PINS_HIGH};
+    ///
+    /// let mut board = Board::reset(51)?;
+    /// board.interval.write(port::CONTROL, control::SELECT1 | control::BOTH | control::MODE0)?;
+    /// board.interval.write(port::COUNTER1, 0)?;
+    /// board.interval.write(port::COUNTER1, 0)?; // 65,536
+    /// assert_eq!(board.jump(PINS_HIGH, GATES_HIGH, 65_536)?, 0); // one of them loads
+    /// assert_eq!(board.jump(PINS_HIGH, GATES_HIGH, 1)?, out::OUT1);
+    /// assert_eq!(board.device.cycle, 65_537);
+    /// # Ok::<(), c51::Refusal>(())
+    /// ```
+    #[inline]
+    pub fn jump(&mut self, pins: u8, gates: u8, n: u64) -> Result<u8, Refusal> {
+        let a = raw::c51_board_jump(self, pins, gates, n);
+        answer(a.code, a.outputs)
+    }
+}
