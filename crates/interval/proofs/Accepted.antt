@@ -28,89 +28,40 @@ module _ (k : Counter) (w : Within k) where
   within-reads : (h l n : ℕ) → h ≤ 1 → l ≤ 1 → n ≤ most (k .bcd) → Within (reads h l n k)
   unfolding reads
   within-reads h l n p q r =
-      record {
-        mode = w .mode;
-        bcd = w .bcd;
-        format = w .format;
-        output = w .output;
-        gate = w .gate;
-        loaded = w .loaded;
-        waits = w .waits;
-        first = w .first;
-        low = w .low;
-        high = p;
-        latched = q;
-        count = w .count;
-        reload = w .reload;
-        waiting = w .waiting;
-        latch = r;
-      }
+      record { set = w .set; levels = w .levels; counts = w .counts; begun = w .begun; reads = record { high = p; latched = q; latch = r } }
 
   within-begun : (byte : ℕ) → byte ≤ 255 → Within (begun byte k)
   unfolding begun
   within-begun byte h =
-      record {
-        mode = w .mode;
-        bcd = w .bcd;
-        format = w .format;
-        output = w .output;
-        gate = w .gate;
-        loaded = w .loaded;
-        waits = w .waits;
-        first = omega arith;
-        low = h;
-        high = w .high;
-        latched = w .latched;
-        count = w .count;
-        reload = w .reload;
-        waiting = w .waiting;
-        latch = w .latch;
-      }
+      record { set = w .set; levels = w .levels; counts = w .counts; begun = record { first = omega arith; low = h }; reads = w .reads }
 
   within-complete : (n : ℕ) → n ≤ most (k .bcd) → Within (complete n k)
   unfolding complete
   within-complete n h =
+      let c = w .counts in
+      let output = chosen (λ (o : ℕ). o ≤ 1) (eqb (k .mode) 0) _ _ zero-le (w .levels .output) in
       record {
-        mode = w .mode;
-        bcd = w .bcd;
-        format = w .format;
-        output = chosen (λ (o : ℕ). o ≤ 1) (eqb (k .mode) 0) _ _ zero-le (w .output);
-        gate = w .gate;
-        loaded = w .loaded;
-        waits = omega arith;
-        first = zero-le;
-        low = zero-le;
-        high = w .high;
-        latched = w .latched;
-        count = w .count;
-        reload = w .reload;
-        waiting = h;
-        latch = w .latch;
+        set = w .set;
+        levels = record { output = output; gate = w .levels .gate };
+        counts = record { loaded = c .loaded; waits = omega arith; count = c .count; reload = c .reload; waiting = h };
+        begun = record { first = zero-le; low = zero-le };
+        reads = w .reads;
       }
 
   within-latch : Within (latchNow k)
   unfolding latchNow
-  within-latch = chosen Within (eqb (k .latched) 1) _ _ w (within-reads (k .high) 1 (k .count) (w .high) (omega arith) (w .count))
+  within-latch = chosen Within (eqb (k .latched) 1) _ _ w (within-reads (k .high) 1 (k .count) (w .reads .high) (omega arith) (w .counts .count))
 
   within-fresh : (b : Bool) (bcd format : ℕ) → bcd ≤ 1 → formatOk format ≡ true → Within (fresh (cond b 0 2) bcd format (k .gate))
   unfolding fresh
   within-fresh b bcd format h f =
+      let output = chosen (λ (o : ℕ). o ≤ 1) (eqb (cond b 0 2) 0) 0 1 zero-le (omega arith) in
       record {
-        mode = chosen (λ (m : ℕ). modeOk m ≡ true) b 0 2 refl refl;
-        bcd = h;
-        format = f;
-        output = chosen (λ (o : ℕ). o ≤ 1) (eqb (cond b 0 2) 0) _ _ zero-le (omega arith);
-        gate = w .gate;
-        loaded = zero-le;
-        waits = zero-le;
-        first = zero-le;
-        low = zero-le;
-        high = zero-le;
-        latched = zero-le;
-        count = zero-le;
-        reload = zero-le;
-        waiting = zero-le;
-        latch = zero-le;
+        set = record { mode = chosen (λ (m : ℕ). modeOk m ≡ true) b 0 2 refl refl; format = f; bcd = h };
+        levels = record { output = output; gate = w .levels .gate };
+        counts = record { loaded = zero-le; waits = zero-le; count = zero-le; reload = zero-le; waiting = zero-le };
+        begun = record { first = zero-le; low = zero-le };
+        reads = record { high = zero-le; latched = zero-le; latch = zero-le };
       }
 
   within-control : (word : ℕ) → Within (control word k .counter)
@@ -131,7 +82,7 @@ module _ (k : Counter) (w : Within k) where
   whole-le : (byte : ℕ) → byte ≤ 255 → whole byte k ≤ 65535
   unfolding whole
   whole-le byte h =
-      let low = w .low in
+      let low = w .begun .low in
       chosen (λ (n : ℕ). n ≤ 65535) (eqb (k .format) 1) _ _ (omega arith)
       (chosen (λ (n : ℕ). n ≤ 65535) (eqb (k .format) 2) _ _ (omega arith) (omega arith))
 
@@ -153,7 +104,7 @@ module _ (k : Counter) (w : Within k) where
   unfolding readByte
   within-read =
       chosen Within (highNext k) _ _
-      (within-reads 1 (k .latched) (k .latch) (omega arith) (w .latched) (w .latch)) (within-reads 0 0 0 zero-le zero-le zero-le)
+      (within-reads 1 (k .latched) (k .latch) (omega arith) (w .reads .latched) (w .reads .latch)) (within-reads 0 0 0 zero-le zero-le zero-le)
 
 -- The chip
 

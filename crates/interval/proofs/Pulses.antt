@@ -18,75 +18,40 @@ module _ (k : Counter) (w : Within k) where
   within-gate : (g : ℕ) → g ≤ 1 → Within (withGate g k)
   unfolding withGate
   within-gate g h =
-      record {
-        mode = w .mode;
-        bcd = w .bcd;
-        format = w .format;
-        output = w .output;
-        gate = h;
-        loaded = w .loaded;
-        waits = w .waits;
-        first = w .first;
-        low = w .low;
-        high = w .high;
-        latched = w .latched;
-        count = w .count;
-        reload = w .reload;
-        waiting = w .waiting;
-        latch = w .latch;
-      }
+      record { set = w .set; levels = record { output = w .levels .output; gate = h }; counts = w .counts; begun = w .begun; reads = w .reads }
 
   within-stands : (n o : ℕ) → n ≤ most (k .bcd) → o ≤ 1 → Within (stands n o k)
   unfolding stands
   within-stands n o h l =
+      let c = w .counts in
       record {
-        mode = w .mode;
-        bcd = w .bcd;
-        format = w .format;
-        output = l;
-        gate = w .gate;
-        loaded = w .loaded;
-        waits = w .waits;
-        first = w .first;
-        low = w .low;
-        high = w .high;
-        latched = w .latched;
-        count = h;
-        reload = w .reload;
-        waiting = w .waiting;
-        latch = w .latch;
+        set = w .set;
+        levels = record { output = l; gate = w .levels .gate };
+        counts = record { loaded = c .loaded; waits = c .waits; count = h; reload = c .reload; waiting = c .waiting };
+        begun = w .begun;
+        reads = w .reads;
       }
 
   within-load : (n o : ℕ) → n ≤ most (k .bcd) → o ≤ 1 → Within (load n o k)
   unfolding load
   within-load n o h l =
       record {
-        mode = w .mode;
-        bcd = w .bcd;
-        format = w .format;
-        output = l;
-        gate = w .gate;
-        loaded = omega arith;
-        waits = zero-le;
-        first = w .first;
-        low = w .low;
-        high = w .high;
-        latched = w .latched;
-        count = h;
-        reload = h;
-        waiting = zero-le;
-        latch = w .latch;
+        set = w .set;
+        levels = record { output = l; gate = w .levels .gate };
+        counts = record { loaded = omega arith; waits = zero-le; count = h; reload = h; waiting = zero-le };
+        begun = w .begun;
+        reads = w .reads;
       }
 
   pub again-le : again k ≤ most (k .bcd)
   unfolding again
-  again-le = chosen (λ (n : ℕ). n ≤ most (k .bcd)) (eqb (k .waits) 1) _ _ (w .waiting) (w .reload)
+  again-le = chosen (λ (n : ℕ). n ≤ most (k .bcd)) (eqb (k .waits) 1) _ _ (w .counts .waiting) (w .counts .reload)
 
   below : oneBelow (most (k .bcd)) (k .count) ≤ most (k .bcd)
-  below = below-le (most (k .bcd)) (k .count) (w .count)
+  below = below-le (most (k .bcd)) (k .count) (w .counts .count)
 
   level : (b : Bool) (x : ℕ) → x ≤ 1 → cond b x (k .output) ≤ 1
-  level b x h = chosen (λ (o : ℕ). o ≤ 1) b _ _ h (w .output)
+  level b x h = chosen (λ (o : ℕ). o ≤ 1) b _ _ h (w .levels .output)
 
   within-down0 : Within (down0 k)
   unfolding down0
@@ -118,7 +83,7 @@ record Mode2 (k : Counter) : Type 0 where
 module _ (g : ℕ) (k : Counter) (w : Within k) where
   loads0 : eqb (k .mode) 0 ≡ true → Mode0 (load (k .waiting) (k .output) k)
   unfolding load
-  loads0 m = record { within = within-load k w (k .waiting) (k .output) (w .waiting) (w .output); mode = m; none = refl }
+  loads0 m = record { within = within-load k w (k .waiting) (k .output) (w .counts .waiting) (w .levels .output); mode = m; none = refl }
 
   downs0 : eqb (k .mode) 0 ≡ true → eqb (k .waits) 1 ≡ false → Mode0 (down0 k)
   unfolding down0 stands
@@ -141,7 +106,7 @@ module _ (g : ℕ) (k : Counter) (w : Within k) where
   forces2 : eqb (k .mode) 0 ≡ false → eqb (k .loaded) 1 ≡ true → Mode2 (stands (k .count) 1 k)
   unfolding stands
   forces2 m t =
-      record { within = within-stands k w (k .count) 1 (w .count) (omega arith); mode = m; none = λ e. absurd (clash t e) }
+      record { within = within-stands k w (k .count) 1 (w .counts .count) (omega arith); mode = m; none = λ e. absurd (clash t e) }
 
   after2 : eqb (k .mode) 0 ≡ false → Mode2 (pulse2 g k)
   unfolding pulse2
@@ -149,7 +114,7 @@ module _ (g : ℕ) (k : Counter) (w : Within k) where
       cond-has Mode2 (eqb (k .loaded) 1) _ _
       (λ t. chosen Mode2 (eqb g 1) _ _
       (chosen Mode2 (reloads g k) _ _ (loads2 (again k) 1 (again-le k w) (omega arith) m) (downs2 m t)) (forces2 m t))
-      (λ t. cond-has Mode2 (eqb (k .waits) 1) _ _ (λ y. loads2 (k .waiting) (k .output) (w .waiting) (w .output) m)
+      (λ t. cond-has Mode2 (eqb (k .waits) 1) _ _ (λ y. loads2 (k .waiting) (k .output) (w .counts .waiting) (w .levels .output) m)
       (λ y. record { within = w; mode = m; none = λ e. y }))
 
   gated0 : (j : Counter) → g ≤ 1 → Mode0 j → Ready g (withGate g j)

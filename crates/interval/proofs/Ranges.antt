@@ -12,23 +12,39 @@ use Rattle.interval.specs.declared.Interval.{Interval}
 use Rattle.interval.specs.Count.{most}
 use Rattle.interval.specs.Interval.{modeOk, formatOk, fields, counterOk, accepted, counterAt}
 
--- each field within its range
+-- the fields in groups, each within its range: what a control word sets, the levels, the counts, the byte that is written first, and what
+-- is read
+pub record Set (m f b : ℕ) : Type 0 where
+  pub mode : modeOk m ≡ true
+  pub format : formatOk f ≡ true
+  pub bcd : b ≤ 1
+
+pub record Levels (o g : ℕ) : Type 0 where
+  pub output : o ≤ 1
+  pub gate : g ≤ 1
+
+pub record Counts (top l w c r n : ℕ) : Type 0 where
+  pub loaded : l ≤ 1
+  pub waits : w ≤ 1
+  pub count : c ≤ top
+  pub reload : r ≤ top
+  pub waiting : n ≤ top
+
+pub record Begun (f l : ℕ) : Type 0 where
+  pub first : f ≤ 1
+  pub low : l ≤ 255
+
+pub record Reads (top h l n : ℕ) : Type 0 where
+  pub high : h ≤ 1
+  pub latched : l ≤ 1
+  pub latch : n ≤ top
+
 pub record Within (k : Counter) : Type 0 where
-  pub mode : modeOk (k .mode) ≡ true
-  pub format : formatOk (k .format) ≡ true
-  pub bcd : k .bcd ≤ 1
-  pub output : k .output ≤ 1
-  pub gate : k .gate ≤ 1
-  pub loaded : k .loaded ≤ 1
-  pub waits : k .waits ≤ 1
-  pub first : k .first ≤ 1
-  pub low : k .low ≤ 255
-  pub high : k .high ≤ 1
-  pub latched : k .latched ≤ 1
-  pub count : k .count ≤ most (k .bcd)
-  pub reload : k .reload ≤ most (k .bcd)
-  pub waiting : k .waiting ≤ most (k .bcd)
-  pub latch : k .latch ≤ most (k .bcd)
+  pub set : Set (k .mode) (k .format) (k .bcd)
+  pub levels : Levels (k .output) (k .gate)
+  pub counts : Counts (most (k .bcd)) (k .loaded) (k .waits) (k .count) (k .reload) (k .waiting)
+  pub begun : Begun (k .first) (k .low)
+  pub reads : Reads (most (k .bcd)) (k .high) (k .latched) (k .latch)
 
 pub within-of : (k : Counter) → counterOk k ≡ true → Within k
 unfolding counterOk fields
@@ -40,29 +56,21 @@ within-of k e =
     go : modeOk (k .mode) ≡ true → formatOk (k .format) ≡ true → Each Most (fields k) → Within k
     go m f (bcd & (output & (gate & (loaded & (waits & (first & (low & (high & (latched & (count & (reload & (waiting & (latch & done))))))))))))) =
         record {
-          mode = m;
-          format = f;
-          bcd = bcd;
-          output = output;
-          gate = gate;
-          loaded = loaded;
-          waits = waits;
-          first = first;
-          low = low;
-          high = high;
-          latched = latched;
-          count = count;
-          reload = reload;
-          waiting = waiting;
-          latch = latch;
+          set = record { mode = m; format = f; bcd = bcd };
+          levels = record { output = output; gate = gate };
+          counts = record { loaded = loaded; waits = waits; count = count; reload = reload; waiting = waiting };
+          begun = record { first = first; low = low };
+          reads = record { high = high; latched = latched; latch = latch };
         }
 
 pub ok-of : (k : Counter) → Within k → counterOk k ≡ true
 unfolding counterOk fields
 ok-of k w =
-    simp (w .mode, w .format)
+    let c = w .counts in
+    let r = w .reads in
+    simp (w .set .mode, w .set .format)
     (hidden-every (fields k)
-    (w .bcd & (w .output & (w .gate & (w .loaded & (w .waits & (w .first & (w .low & (w .high & (w .latched & (w .count & (w .reload & (w .waiting & (w .latch & done))))))))))))))
+    (w .set .bcd & (w .levels .output & (w .levels .gate & (c .loaded & (c .waits & (w .begun .first & (w .begun .low & (r .high & (r .latched & (c .count & (c .reload & (c .waiting & (r .latch & done))))))))))))))
 
 -- the counters of an accepted record
 module _ (c : Interval) (e : accepted c ≡ true) where
@@ -95,5 +103,5 @@ accepted-of c w0 w1 w2 = simp (ok-of (c .counter0) w0, ok-of (c .counter1) w1, o
 pub shown-le : (k : Counter) → Within k → k .bcd ≡ 1 → cond (eqb (k .latched) 1) (k .latch) (k .count) ≤ 9999
 unfolding most
 shown-le k w e =
-    chosen (λ (n : ℕ). n ≤ 9999) (eqb (k .latched) 1) _ _ (subst (λ (b : ℕ). k .latch ≤ most b) e (w .latch))
-    (subst (λ (b : ℕ). k .count ≤ most b) e (w .count))
+    chosen (λ (n : ℕ). n ≤ 9999) (eqb (k .latched) 1) _ _ (subst (λ (b : ℕ). k .latch ≤ most b) e (w .reads .latch))
+    (subst (λ (b : ℕ). k .count ≤ most b) e (w .counts .count))

@@ -219,7 +219,7 @@ pub steady-law : (n g : ℕ) (k : Counter) → Ready g k → pulses n g k ≡ st
 unfolding steady
 steady-law n g k r =
     by-test (eqb (k .mode) 0)
-    (λ m. simp m (steady0 g k m (r .none0 m) (r .gate) n (r .within .count)))
+    (λ m. simp m (steady0 g k m (r .none0 m) (r .gate) n (r .within .counts .count)))
     (λ m. simp m
     (by-test (eqb (k .loaded) 1)
     (λ l. simp l
@@ -229,7 +229,7 @@ steady-law n g k r =
     (λ l. simp l (still n g k (waits2 g k m (r .gate) l (r .none2 m l))))))
   where
     runs : eqb (k .mode) 0 ≡ false → eqb (k .loaded) 1 ≡ true → g ≡ 1 → Runs k
-    runs m l e = record { mode = m; loaded = l; gate = r .gate ∙ e; count = r .within .count; again = again-le k (r .within) }
+    runs m l e = record { mode = m; loaded = l; gate = r .gate ∙ e; count = r .within .counts .count; again = again-le k (r .within) }
 
 -- n pulses: one, and then the closed form of the others
 pub jump-law : (n g : ℕ) (k : Counter) → g ≤ 1 → Within k → pulses (suc n) g k ≡ steady n g (pulse g k)
