@@ -1,6 +1,6 @@
 # Two commands: `make demo` builds and runs, `make test` checks everything.
 
-.PHONY: demo test lib replay compare soak bench model clean
+.PHONY: demo test speed lib replay compare soak bench model clean
 
 # Eleven stations reading tags. DEMO='--help' lists the options.
 demo: lib
@@ -10,6 +10,13 @@ demo: lib
 # The gate: every proof, every must-fail edit, every test. Its last line is 'N passed, M failed'.
 test:
 	@sh tests/gate.sh
+
+# SMOD and TH1 for a crystal in Hz, a rate in bits a second and a tolerance in hundredths of a percent. It succeeds also where
+# there is none.
+SPEED = 11059200 9600 50
+speed: lib
+	@cd rust && cargo build --release --offline --quiet -p station
+	@rust/target/release/station --speed $(SPEED) || [ $$? = 1 ]
 
 # The C library: dist/libc51.a, of the exports of c51_lent and board_lent, and dist/c51.h.
 lib:
@@ -32,7 +39,7 @@ compare: replay
 	@echo "seed $(SEED)"
 	@sh tests/compare.sh 8 4000 $(SEED)
 
-# Random lists and raw records through the library and the model. SOAK='--cycles N --records N --seed S'.
+# Random lists, raw records and speeds through the library and the model. SOAK='--cycles N --records N --speeds N --seed S'.
 soak: lib
 	@cd rust && cargo build --release --offline --quiet -p compare
 	@rust/target/release/soak $(SOAK)

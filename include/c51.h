@@ -1,6 +1,6 @@
 /*
- * The proved peripherals of the 80C51 and 80C52: timers, serial port and interrupt controller; and the 82C53 interval timer beside
- * the chip.
+ * The proved peripherals of the 80C51 and 80C52: timers, serial port and interrupt controller; the 82C53 interval timer beside the
+ * chip; and a finder that gives SMOD and TH1 for a wanted speed.
  *
  * A device is one record, c51_device, which the caller owns: the library keeps nothing between calls, so that any number of
  * devices run side by side and in any number of threads. So is an 82C53, c53_interval, and a board that has both, c51_board. Every
@@ -9,7 +9,8 @@
  * A call answers a code: 0, or the number of the refusal. The lowest number applies, with three exceptions: 10 goes after 1 and
  * before 3, 6 and 7; 12 goes before 11; and in a trace 5 goes first after 1, then the first bad entry, 4 before 8 within it. A
  * refused call leaves the record as it was, and every other number of its answer is 0. Each call but c51_reset, c51_accepts,
- * c53_reset, c53_accepts and c53_outputs first judges the record, so that each of them may answer C51_BAD_RECORD.
+ * c53_reset, c53_accepts, c53_outputs, and c51_speed, which takes none, first judges the record, so that each of them may answer
+ * C51_BAD_RECORD.
  */
 #ifndef C51_H
 #define C51_H
@@ -36,11 +37,15 @@ enum {
     C51_POWERED_DOWN = 10,      /* write, take or return in power-down */
     C51_BAD_MODE = 11,          /* a control word of the 82C53 with another mode than 0 and 2 */
     C51_BAD_CHOICE = 12,        /* a control word with counter choice 3, an address of the 82C53 above 3, or a read at 3 */
-    C51_BAD_COUNT = 13          /* a BCD digit above nine or a mode 2 count of 1, tested when the count is complete */
+    C51_BAD_COUNT = 13,         /* a BCD digit above nine or a mode 2 count of 1, tested when the count is complete */
+    C51_BAD_SPEED = 14          /* a crystal, rate or tolerance outside its limits */
 };
 
 #define C51_MAX_CYCLES ((uint64_t)1 << 40) /* of one jump, look ahead or wake look; pulses likewise */
 #define C51_MAX_TRACE 65536u               /* entries of one trace */
+#define C51_MAX_CRYSTAL 40000000u          /* Hz; from 1 */
+#define C51_MAX_RATE 1000000u              /* wanted bits a second; from 1 */
+#define C51_MAX_TOLERANCE 10000u           /* hundredths of a percent of the wanted rate; from 0 */
 
 /* The pin byte of a cycle: a bit for each pin, bit 7 is 0. Kind 51 takes T2 and T2EX as 1. */
 enum {
@@ -412,6 +417,25 @@ c51_board_answer c51_board_cycle(c51_board *board, uint8_t pins, uint8_t gates);
 
 /* n of them, 0 to C51_MAX_CYCLES, with one pin byte and one gate byte. It costs as c51_jump does. Refusals: 1 and 4 as above, 5. */
 c53_outputs_answer c51_board_jump(c51_board *board, uint8_t pins, uint8_t gates, uint64_t n);
+
+/* ---------------------------------------------------------------- from a wanted speed to a reload */
+
+/* A speed: found is 1, smod and th1 are the pair and achieved is its rate in whole bits a second, cut downward; or all four are 0. */
+typedef struct {
+    uint8_t code;
+    uint8_t found;
+    uint8_t smod; /* 0 or 1: bit 7 of PCON */
+    uint8_t th1;  /* TH1 */
+    uint64_t achieved;
+} c51_speed_answer;
+
+/* The pair of SMOD and TH1 that comes nearest to a wanted rate. With Timer 1 in mode 2 as the clock of serial mode 1 or 3, a pair has
+ * 2^SMOD * crystal / (384 * (256 - TH1)) bits a second, a fraction. Of all 512 pairs it is the one whose rate is nearest to the
+ * wanted one, by their difference; of pairs that are as near, one with SMOD 0, and of these the one with the larger TH1. Found where
+ * the difference is at most rate * tolerance / 10000, a fraction too: nothing is rounded. None where no pair is so near. It meets no
+ * device. Refusal: 14, before any search, where crystal is not 1 to C51_MAX_CRYSTAL, rate not 1 to C51_MAX_RATE, or tolerance above
+ * C51_MAX_TOLERANCE. */
+c51_speed_answer c51_speed(uint64_t crystal, uint64_t rate, uint64_t tolerance);
 
 #ifdef __cplusplus
 }

@@ -6,6 +6,7 @@
 cd "$(dirname "$0")/.." || exit 1
 least_calls=340000
 least_board_calls=50000
+least_speed_calls=22000
 stage=$(cat tests/stage) || exit 1
 for number in "$@"; do
     case $number in
@@ -27,6 +28,7 @@ styles=$(sh model/styles.sh "$stage")
 [ -n "$styles" ] || { echo 'compare: the model names no styles'; exit 1; }
 calls=0
 board_calls=0
+speed_calls=0
 shortened=0
 compared=0
 
@@ -44,7 +46,7 @@ damage() {
 }
 
 # same NAME SCRIPT: the script within reach gets the same answers from both. The calls are its lines but faults, dumps
-# and set records; those of the 82C53 and of the board begin with V.
+# and set records; those of the 82C53 and of the board begin with V, those that ask for a speed with B.
 same() {
     if ! "$reach" <"$2" >"$work/script"; then
         fault "$1" 'reach fails'
@@ -55,10 +57,12 @@ same() {
     elif answered "$1" "$work/script" "$work/model"; then
         compared=$((compared + lines))
         shortened=$((shortened + $(diff "$2" "$work/script" | grep -c '^<')))
-        counted=$(awk 'NR == FNR { fault[FNR] = /^\?/; next } !fault[FNR] && !/^[DS]/ { n++; v += /^V/ } END { print n + 0, v + 0 }' \
-            "$work/model" "$work/script")
-        calls=$((calls + ${counted% *}))
-        board_calls=$((board_calls + ${counted#* }))
+        awk 'NR == FNR { fault[FNR] = /^\?/; next } !fault[FNR] && !/^[DS]/ { n++; v += /^V/; b += /^B/ }
+            END { print n + 0, v + 0, b + 0 }' "$work/model" "$work/script" >"$work/counted"
+        read -r n v b <"$work/counted"
+        calls=$((calls + n))
+        board_calls=$((board_calls + v))
+        speed_calls=$((speed_calls + b))
         return
     fi
     cp "$work/script" "target/differs.$bad.txt"
@@ -82,8 +86,9 @@ for style in $styles; do
     done
 done
 
-printf '%s calls compared, %s of them of the 82C53 or the board, %s shortened, in %s lines, seeds from %s\n' \
-    "$calls" "$board_calls" "$shortened" "$compared" "$first"
+printf '%s calls compared, %s of them of the 82C53 or the board, %s for a speed, %s shortened, in %s lines, seeds from %s\n' \
+    "$calls" "$board_calls" "$speed_calls" "$shortened" "$compared" "$first"
 [ $# -gt 0 ] || [ "$calls" -ge "$least_calls" ] || fault compare "fewer than $least_calls calls"
 [ $# -gt 0 ] || [ "$board_calls" -ge "$least_board_calls" ] || fault compare "fewer than $least_board_calls calls of the board"
+[ $# -gt 0 ] || [ "$speed_calls" -ge "$least_speed_calls" ] || fault compare "fewer than $least_speed_calls calls for a speed"
 verdict

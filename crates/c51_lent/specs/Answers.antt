@@ -10,9 +10,13 @@ use Rattle.machine.specs.declared.LookAnswer.{LookAnswer}
 use Rattle.machine.specs.declared.LookAnswer.the-variants as Look
 use Rattle.machine.specs.Record.{accepted}
 use Rattle.machine.specs.Calls.{readAnswer, offerAnswer, lookAnswer, wakeAnswer}
+use Rattle.baud.specs.declared.SpeedAnswer.{SpeedAnswer}
+use Rattle.baud.specs.declared.SpeedAnswer.the-variants as Speed
+use Rattle.baud.specs.Speed.{speed}
 use Rattle.c51_lent.specs.declared.ValueAnswer.{ValueAnswer}
 use Rattle.c51_lent.specs.declared.OfferedAnswer.{OfferedAnswer}
 use Rattle.c51_lent.specs.declared.LookedAnswer.{LookedAnswer}
+use Rattle.c51_lent.specs.declared.FoundAnswer.{FoundAnswer}
 
 -- Read: the value
 abbrev pub valueOf : ReadAnswer → ValueAnswer
@@ -47,3 +51,12 @@ wokenAnswer d pins n = lookedOf (wakeAnswer d pins n)
 -- The record check: 1 where the record is accepted
 unfoldable pub acceptsAnswer : Device → ℕ
 acceptsAnswer d = cond (accepted d) 1 0
+
+-- The speed finder: 1, the pair and its rate, or zeros
+abbrev pub foundOf : SpeedAnswer → FoundAnswer
+foundOf (Speed.Refused k) = record { code = k; pair = 0; smod = 0; th1 = 0; achieved = 0 }
+foundOf (Speed.Found smod th1 n) = record { code = 0; pair = 1; smod = smod; th1 = th1; achieved = n }
+foundOf Speed.Nothing = record { code = 0; pair = 0; smod = 0; th1 = 0; achieved = 0 }
+
+unfoldable pub foundAnswer : ℕ → ℕ → ℕ → FoundAnswer
+foundAnswer crystal rate tolerance = foundOf (speed crystal rate tolerance)

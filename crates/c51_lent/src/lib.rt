@@ -1,6 +1,6 @@
 // The library for C: the calls that alter a device, and whole scripts of calls, over a device record that is lent by reference and
-// altered there, and the others over one passed by value. Each is thin over the public call of `c51_access`, `c51_interrupt`, `c51_run`
-// or `lists`; nothing is asked of the record.
+// altered there, and the others over one passed by value; and the speed finder, which meets no device. Each is thin over the public call
+// of `c51_access`, `c51_interrupt`, `c51_run`, `lists` or `speed`; nothing is asked of the record.
 ghost use mathlib.Core.Path.{_≡_};
 ghost use Rattle.machine.specs.Calls as Machine;
 ghost use Rattle.lists.specs.Script.{script, Replayed};
@@ -45,6 +45,16 @@ pub struct LookedAnswer {
     pub code: u8,
     pub found: u8,
     pub at: u64,
+}
+
+// The speed finder's code, 1 where there is a pair (`found` in c51.h), its SMOD and TH1, and the rate that it achieves.
+#[repr(C)]
+pub struct FoundAnswer {
+    pub code: u8,
+    pub pair: u8,
+    pub smod: u8,
+    pub th1: u8,
+    pub achieved: u64,
 }
 
 // Write a register's implemented bits: 1, 10, 3.
@@ -212,4 +222,39 @@ pub extern "C" fn c51_accepts(d: Device) -> u8
     ensures { λ r. ⌜ r ≡ Numbers.acceptsAnswer d ⌝ }
 {
     if record::accepts(d) { 1 } else { 0 }
+}
+
+// SMOD and TH1 of Timer 1 for a crystal, a rate and a tolerance, or none: 14.
+#[no_mangle]
+pub extern "C" fn c51_speed(crystal: u64, rate: u64, tolerance: u64) -> FoundAnswer
+    ensures { λ r. ⌜ r ≡ Numbers.foundAnswer crystal rate tolerance ⌝ }
+{
+    let a = speed::speed(crystal, rate, tolerance);
+    match a {
+        baud::SpeedAnswer::Refused(k) => FoundAnswer {
+            code: k,
+            pair: 0,
+            smod: 0,
+            th1: 0,
+            achieved: 0,
+        },
+        baud::SpeedAnswer::Found {
+            smod,
+            th1,
+            achieved,
+        } => FoundAnswer {
+            code: 0,
+            pair: 1,
+            smod: smod,
+            th1: th1,
+            achieved: achieved,
+        },
+        baud::SpeedAnswer::Nothing => FoundAnswer {
+            code: 0,
+            pair: 0,
+            smod: 0,
+            th1: 0,
+            achieved: 0,
+        },
+    }
 }

@@ -27,3 +27,6 @@ pub const BAD_MODE: u8 = 11;
 pub const BAD_CHOICE: u8 = 12;
 
 pub const BAD_COUNT: u8 = 13;
+
+// Of the speed finder (request Four): a crystal, rate or tolerance outside its limits.
+pub const BAD_SPEED: u8 = 14;

@@ -1,11 +1,14 @@
-//! The benchmark: single cycles, the idle station, a device at rest and in power-down, the 82C53 and the board, a frame, and a thousand
-//! tags, next to the plain model and to other programs.
+//! The benchmark: single cycles, the idle station, a device at rest and in power-down, the 82C53 and the board, a speed, a frame,
+//! and a thousand tags, next to the plain model and to other programs.
 use bench::others::{emu8051, s51, Figure};
 use bench::plain::Plain;
 use bench::tight::Idle;
 use bench::timing::{race, seconds, Contender};
 use c51::{address, control, pcon, pin, port, raw, Board, Device, Interval, GATES_HIGH, MAX_CYCLES, PINS_HIGH};
+use c51model::baud::find_speed;
+use c51model::model::set_stage;
 use compare::record::{interval_to_model, to_model};
+use compare::STAGE;
 use station::chips::{Chips, CYCLES_A_SECOND, PASSES};
 use station::frame::{frame, Stretch, BIT};
 use station::reader::Reader;
@@ -42,6 +45,7 @@ fn main() {
     power_down(part);
     interval_timer(part);
     board(part);
+    speed(part);
     one_frame(part);
     let s51 = s51();
     let emu8051 = emu8051(&std::env::temp_dir());
@@ -341,6 +345,41 @@ fn board(part: u64) {
     println!("\nA board with such an 82C53 beside all timers running, and beside a device at rest, over 2^40 cycles:");
     lines(&contenders[..2], &times[..2], cycles, ("ns", 1e9), 1);
     lines(&contenders[2..], &times[2..], calls, ("ns", 1e9), 1);
+}
+
+/// Speeds that are asked for in turn, as crystal, rate and tolerance: found exactly, found within the tolerance, none, and as near on
+/// either side.
+const SPEEDS: [(u64, u64, u64); 4] =
+    [(11_059_200, 9_600, 50), (12_000_000, 4_800, 50), (12_000_000, 9_600, 50), (12_681_216, 257, 10_000)];
+
+fn speed(part: u64) {
+    const WITHIN: &str = "numbers within the limits";
+    set_stage(STAGE);
+    for (crystal, rate, tolerance) in SPEEDS {
+        let library = c51::speed(crystal, rate, tolerance).expect(WITHIN).map(|s| (s.smod, s.th1, s.achieved));
+        let model = find_speed(crystal, rate, tolerance).expect(WITHIN).map(|s| (s.smod, s.th1, s.achieved));
+        assert_eq!(library, model, "the library and the model find the same");
+    }
+    let rounds = CALLS / part / SPEEDS.len() as u64;
+    let mut contenders = [
+        Contender::new("speed (c51_speed)", || {
+            for _ in 0..rounds {
+                for (crystal, rate, tolerance) in black_box(SPEEDS) {
+                    black_box(raw::c51_speed(crystal, rate, tolerance));
+                }
+            }
+        }),
+        Contender::new("speed, plain model", || {
+            for _ in 0..rounds {
+                for (crystal, rate, tolerance) in black_box(SPEEDS) {
+                    black_box(find_speed(crystal, rate, tolerance)).expect(WITHIN);
+                }
+            }
+        }),
+    ];
+    let times = race(RUNS, &mut contenders);
+    println!("\nSMOD and TH1 for a wanted speed:");
+    lines(&contenders, &times, rounds * SPEEDS.len() as u64, ("ns", 1e9), 1);
 }
 
 /// Frames one after the other, each read by interrupt.

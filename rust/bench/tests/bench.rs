@@ -61,6 +61,8 @@ fn missing_programs_are_named_and_left_out() {
         "over 2^40 cycles:\n  board cycle (c51_board_cycle) ",
         "x cycle (c51_cycle)\n  board jump (c51_board_jump) ",
         "x jump (c51_jump)\n",
+        "SMOD and TH1 for a wanted speed:\n  speed (c51_speed) ",
+        "x speed, plain model\n  speed, plain model ",
         "A frame of 960 cycles",
         "Run time for 1000 tags",
     ] {

@@ -2,7 +2,8 @@
 //!
 //! A [`Device`] is the plain record of `c51.h`, with public fields. Any content is answered: a record that is no
 //! device's is refused as [`Refusal::BadRecord`]. A refused call leaves the device as it was. The same goes for an
-//! [`Interval`], which is the 82C53, and for a [`Board`], which has both chips.
+//! [`Interval`], which is the 82C53, and for a [`Board`], which has both chips. [`speed()`] gives SMOD and TH1 for a wanted
+//! speed, and needs no device.
 //!
 //! ```
 //! use c51::{address, Device, PINS_HIGH};
@@ -22,10 +23,12 @@
 mod board;
 mod interval;
 pub mod raw;
+mod speed;
 
 pub use raw::{AnswerRow, CallRow, ANSWER_WORDS, CALL_WORDS, NONE};
 pub use raw::{Board, Counter, Interval};
 pub use raw::{Device, Interrupts, Receiver, Sender, Serial, Timer2, Timers};
+pub use speed::{speed, Speed, MAX_CRYSTAL, MAX_RATE, MAX_TOLERANCE};
 
 /// All pins at 1.
 pub const PINS_HIGH: u8 = 0x7F;
@@ -157,11 +160,12 @@ pub enum Refusal {
     BadMode = 11,
     BadChoice = 12,
     BadCount = 13,
+    BadSpeed = 14,
 }
 
 impl Refusal {
     /// Every refusal, in the order of the codes.
-    pub const ALL: [Refusal; 12] = [
+    pub const ALL: [Refusal; 13] = [
         Refusal::BadRecord,
         Refusal::BadKind,
         Refusal::BadAddress,
@@ -174,6 +178,7 @@ impl Refusal {
         Refusal::BadMode,
         Refusal::BadChoice,
         Refusal::BadCount,
+        Refusal::BadSpeed,
     ];
 
     /// The library's code.
@@ -202,6 +207,7 @@ impl std::fmt::Display for Refusal {
             Refusal::BadMode => "the control word has another mode than 0 and 2",
             Refusal::BadChoice => "counter choice 3, an address of the 82C53 above 3, or a read at 3",
             Refusal::BadCount => "a BCD digit above nine, or a mode 2 count of 1",
+            Refusal::BadSpeed => "crystal not 1 to 40,000,000 Hz, rate not 1 to 1,000,000, or tolerance above 10,000",
         })
     }
 }

@@ -191,6 +191,17 @@ pub struct BoardAnswer {
     pub outputs: u8,
 }
 
+/// A speed.
+#[repr(C)]
+#[derive(Clone, Copy, PartialEq, Eq, Debug)]
+pub struct SpeedAnswer {
+    pub code: u8,
+    pub found: u8,
+    pub smod: u8,
+    pub th1: u8,
+    pub achieved: u64,
+}
+
 /// The words of a call in a list, and of its answer.
 pub const CALL_WORDS: usize = 3;
 pub const ANSWER_WORDS: usize = 3;
@@ -224,6 +235,7 @@ unsafe extern "C" {
     pub safe fn c53_accepts(interval: Interval) -> u8;
     pub safe fn c51_board_cycle(board: &mut Board, pins: u8, gates: u8) -> BoardAnswer;
     pub safe fn c51_board_jump(board: &mut Board, pins: u8, gates: u8, n: u64) -> OutputsAnswer;
+    pub safe fn c51_speed(crystal: u64, rate: u64, tolerance: u64) -> SpeedAnswer;
     fn c51_trace(device: &mut Device, entries: *const u32, count: usize) -> u8;
     fn c51_replay(
         device: &mut Device,

@@ -272,11 +272,41 @@ static void boards(void) {
     check(c51_board_jump(&board, 0x80, 8, 0).code == C51_BAD_RECORD, "board jump of it");
 }
 
+static int gives(c51_speed_answer a, uint8_t code, uint8_t found, uint8_t smod, uint8_t th1, uint64_t achieved) {
+    return a.code == code && a.found == found && a.smod == smod && a.th1 == th1 && a.achieved == achieved;
+}
+
+/* Exactly, none and the tolerance that suffices, ties to SMOD 0 and to the larger TH1, the ends of the limits, and past each. */
+static void speeds(void) {
+    const uint64_t bits_32 = (uint64_t)1 << 32;
+    check(gives(c51_speed(11059200, 9600, 0), C51_PASSED, 1, 0, 0xFD, 9600), "9,600 at 11.0592 MHz");
+    check(gives(c51_speed(11059200, 19200, 0), C51_PASSED, 1, 1, 0xFD, 19200), "19,200 at 11.0592 MHz");
+    check(gives(c51_speed(12000000, 9600, 50), C51_PASSED, 0, 0, 0, 0), "9,600 at 12 MHz: none");
+    check(gives(c51_speed(12000000, 9600, 699), C51_PASSED, 0, 0, 0, 0), "none still");
+    check(gives(c51_speed(12000000, 9600, 700), C51_PASSED, 1, 1, 0xF9, 8928), "a tolerance that suffices");
+    check(gives(c51_speed(4608, 7, C51_MAX_TOLERANCE), C51_PASSED, 1, 0, 0xFE, 6), "a tie to SMOD 0");
+    check(gives(c51_speed(12681216, 257, C51_MAX_TOLERANCE), C51_PASSED, 1, 0, 0x80, 258), "a tie to the larger TH1");
+    check(gives(c51_speed(3859200, 10000, 50), C51_PASSED, 1, 0, 0xFF, 10050), "off by the tolerance");
+    check(gives(c51_speed(3859200, 10000, 49), C51_PASSED, 0, 0, 0, 0), "off by more");
+    check(gives(c51_speed(1, 1, C51_MAX_TOLERANCE), C51_PASSED, 1, 1, 0xFF, 0), "the least crystal and rate");
+    check(gives(c51_speed(C51_MAX_CRYSTAL, C51_MAX_RATE, C51_MAX_TOLERANCE), C51_PASSED, 1, 1, 0xFF, 208333), "the greatest");
+    check(gives(c51_speed(0, 9600, 50), C51_BAD_SPEED, 0, 0, 0, 0), "no crystal");
+    check(gives(c51_speed(C51_MAX_CRYSTAL + 1, 9600, 50), C51_BAD_SPEED, 0, 0, 0, 0), "too great a crystal");
+    check(gives(c51_speed(bits_32 + 11059200, 9600, 50), C51_BAD_SPEED, 0, 0, 0, 0), "a crystal of 33 bits");
+    check(gives(c51_speed(11059200, 0, 50), C51_BAD_SPEED, 0, 0, 0, 0), "no rate");
+    check(gives(c51_speed(11059200, C51_MAX_RATE + 1, 50), C51_BAD_SPEED, 0, 0, 0, 0), "too great a rate");
+    check(gives(c51_speed(11059200, bits_32 + 9600, 50), C51_BAD_SPEED, 0, 0, 0, 0), "a rate of 33 bits");
+    check(gives(c51_speed(11059200, 9600, C51_MAX_TOLERANCE + 1), C51_BAD_SPEED, 0, 0, 0, 0), "too great a tolerance");
+    check(gives(c51_speed(11059200, 9600, bits_32), C51_BAD_SPEED, 0, 0, 0, 0), "a tolerance of 33 bits");
+    check(gives(c51_speed(UINT64_MAX, UINT64_MAX, UINT64_MAX), C51_BAD_SPEED, 0, 0, 0, 0), "all of it");
+}
+
 int main(void) {
     calls();
     lists();
     intervals();
     boards();
+    speeds();
     if (failures == 0) printf("passed\n");
     return failures != 0;
 }

@@ -1,7 +1,8 @@
 //! The layout of the records and of the answers, size and each offset, and the constants: in Rust and in a C program
 //! that includes `c51.h`.
 use c51::raw::*;
-use c51::{address, call, control, gate, out, pcon, pin, port, Refusal, GATES_HIGH, MAX_CYCLES, MAX_TRACE, PINS_HIGH};
+use c51::{address, call, control, gate, out, pcon, pin, port, Refusal};
+use c51::{GATES_HIGH, MAX_CRYSTAL, MAX_CYCLES, MAX_RATE, MAX_TOLERANCE, MAX_TRACE, PINS_HIGH};
 use std::collections::BTreeSet;
 use std::mem::{offset_of, size_of};
 use std::path::{Path, PathBuf};
@@ -61,6 +62,7 @@ fn places() -> Vec<Place> {
         "c51_board" Board 120 { device 0, device.cycle 48, interval 56, interval.counter2.latch 114 }
         "c53_outputs_answer" OutputsAnswer 2 { code 0, outputs 1 }
         "c51_board_answer" BoardAnswer 3 { code 0, line 1, outputs 2 }
+        "c51_speed_answer" SpeedAnswer 16 { code 0, found 1, smod 2, th1 3, achieved 8 }
     }
 }
 
@@ -101,8 +103,12 @@ fn constants() -> Vec<Constant> {
         ("C51_BAD_MODE", Refusal::BadMode as u64),
         ("C51_BAD_CHOICE", Refusal::BadChoice as u64),
         ("C51_BAD_COUNT", Refusal::BadCount as u64),
+        ("C51_BAD_SPEED", Refusal::BadSpeed as u64),
         ("C51_MAX_CYCLES", MAX_CYCLES),
         ("C51_MAX_TRACE", MAX_TRACE as u64),
+        ("C51_MAX_CRYSTAL", MAX_CRYSTAL),
+        ("C51_MAX_RATE", MAX_RATE),
+        ("C51_MAX_TOLERANCE", MAX_TOLERANCE),
         ("C51_PINS_HIGH", PINS_HIGH.into()),
         ("C53_GATES_HIGH", GATES_HIGH.into()),
         ("C51_CALL_WORDS", CALL_WORDS as u64),

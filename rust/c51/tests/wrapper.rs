@@ -13,7 +13,7 @@ fn timer_0_at_fffe() -> Device {
 
 #[test]
 fn codes_and_refusals() {
-    assert_eq!(Refusal::ALL.map(Refusal::code), [1, 2, 3, 4, 5, 6, 7, 8, 10, 11, 12, 13]);
+    assert_eq!(Refusal::ALL.map(Refusal::code), [1, 2, 3, 4, 5, 6, 7, 8, 10, 11, 12, 13, 14]);
     for refusal in Refusal::ALL {
         assert_eq!(Refusal::of_code(refusal.code()), Some(refusal));
         assert!(!refusal.to_string().is_empty());
@@ -21,7 +21,8 @@ fn codes_and_refusals() {
     assert_eq!(Refusal::of_code(0), None);
     assert_eq!(Refusal::of_code(9), None, "9 is retired");
     assert_eq!(Refusal::of_code(10), Some(Refusal::PoweredDown));
-    assert_eq!(Refusal::of_code(14), None);
+    assert_eq!(Refusal::of_code(14), Some(Refusal::BadSpeed));
+    assert_eq!(Refusal::of_code(15), None);
 }
 
 #[test]

@@ -1,5 +1,6 @@
 //! Fresh random records of any content and random lists of calls, beside those of the model's generator.
 use crate::pair::{Pair, Tally};
+use crate::speeds::speed_call;
 use crate::{entry, STAGE};
 use c51::{address, control, pcon, port};
 use c51::{Board, Counter, Device, Interval, Timer2, GATES_HIGH, MAX_CYCLES, PINS_HIGH};
@@ -450,8 +451,9 @@ fn next_board_name(rng: &mut Rng) -> BoardName {
     }
 }
 
-/// Calls of a list: one of so many is of the 82C53 or of the board; of the others one of so many puts the device to sleep, and in
-/// power-down one of so many ends it.
+/// Calls of a list: one of so many asks for a speed; of the others one of so many is of the 82C53 or of the board; of the rest one
+/// of so many puts the device to sleep, and in power-down one of so many ends it.
+const SPEED: u64 = 25;
 const BOARD: u64 = 3;
 const SLEEP: u64 = 20;
 const END_OF_POWER_DOWN: u64 = 10;
@@ -494,6 +496,9 @@ pub fn run_list(rng: &mut Rng, length: u64) -> Result<Tally, String> {
     };
     let most = rng.pick(&[3, 30, 300, 3000]);
     let calls = (1..length).map(|_| {
+        if rng.one_in(SPEED) {
+            return Request::Speed(speed_call(rng));
+        }
         if rng.one_in(BOARD) {
             let name = next_board_name(rng);
             return Request::Board(board_call(rng, name, most));

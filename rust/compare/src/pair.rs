@@ -2,6 +2,7 @@
 use crate::ran::{row, Ran};
 use crate::reach::{shortened, REACH};
 use crate::record::{board_to_model, interval_of_model, interval_to_model, to_model, Model};
+use crate::speeds::compare_speed;
 use c51::raw::{self, BoardAnswer, LineAnswer, LookAnswer, OutputsAnswer, ValueAnswer};
 use c51::{pcon, AnswerRow, Board, Device, Interval};
 use c51model::interval::{self, board_cycle, board_jump};
@@ -35,7 +36,7 @@ fn code_and<T: Default>(answer: Result<T, Refusal>) -> (u8, T) {
 }
 
 /// Nothing where both answers are the same in every number.
-fn same<T: PartialEq + Debug>(library: T, model: T) -> Result<(), String> {
+pub fn same<T: PartialEq + Debug>(library: T, model: T) -> Result<(), String> {
     if library == model {
         Ok(())
     } else {
@@ -129,6 +130,10 @@ impl Pair {
             Request::Call(call) => Some(self.call(call)?),
             Request::Board(call) => {
                 self.board_call(call)?;
+                None
+            }
+            Request::Speed(call) => {
+                compare_speed(call)?;
                 None
             }
             Request::Put(device) => {
@@ -304,6 +309,8 @@ pub struct Tally {
     pub woken: u64,
     /// The calls of the 82C53 and of the board.
     pub of_the_board: u64,
+    /// The calls for a speed.
+    pub for_a_speed: u64,
 }
 
 impl Tally {
@@ -317,6 +324,7 @@ impl Tally {
             in_power_down: in_power_down.into(),
             woken: woken.into(),
             of_the_board: matches!(request, Request::Board(_)).into(),
+            for_a_speed: matches!(request, Request::Speed(_)).into(),
         }
     }
 }
@@ -328,5 +336,6 @@ impl std::ops::AddAssign for Tally {
         self.in_power_down += other.in_power_down;
         self.woken += other.woken;
         self.of_the_board += other.of_the_board;
+        self.for_a_speed += other.for_a_speed;
     }
 }

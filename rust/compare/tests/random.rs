@@ -1,14 +1,17 @@
 //! A fixed number of lists and raw records of fixed seeds, and that the comparison finds what it must.
 use c51::{call, flag, pcon, Board, Counter, Device, Interval, ANSWER_WORDS, GATES_HIGH, MAX_CYCLES, PINS_HIGH};
+use c51model::baud::{distance, rate_of};
 use c51model::interval::board_jump;
 use c51model::{coverage, script};
 use compare::lists::{raw_interval, raw_record, run_list, run_record, script, styles};
 use compare::pair::{Pair, Tally};
 use compare::record::{board_to_model, interval_of_model, interval_to_model, of_model, to_model};
+use compare::speeds::{compare_speed, speed_call, Outcomes};
 use compare::{entry, STAGE};
 use random::Rng;
 use replay::calls::{Call, Request};
 use replay::record::{numbers, NUMBERS};
+use replay::speed::SpeedCall;
 use std::path::Path;
 
 const SCRIPTS_OF_A_STYLE: u64 = 4;
@@ -16,6 +19,7 @@ const LINES: u64 = 1500;
 const LISTS: u64 = 3_000;
 const LIST_LENGTH: u64 = 50;
 const RECORDS: u64 = 100_000;
+const SPEEDS: u64 = 40_000;
 
 #[test]
 fn scripts_of_the_model() {
@@ -31,6 +35,7 @@ fn scripts_of_the_model() {
     assert_eq!(total.calls, styles.len() as u64 * SCRIPTS_OF_A_STYLE * LINES);
     assert!(total.cycles > 1_000_000, "{total:?}");
     assert!(total.of_the_board > SCRIPTS_OF_A_STYLE * LINES, "{total:?}");
+    assert!(total.for_a_speed > SCRIPTS_OF_A_STYLE * LINES / 2, "{total:?}");
 }
 
 /// The rules of the 82C53 that the model has followed in this thread fewer times than so often.
@@ -51,6 +56,7 @@ fn fresh_lists() {
     assert!((total.calls / 50..total.calls / 5).contains(&total.in_power_down), "{total:?}");
     assert!(total.woken > LISTS / 20, "{total:?}");
     assert!(total.of_the_board > total.calls / 4, "{total:?}");
+    assert!(total.for_a_speed > total.calls / 50, "{total:?}");
     assert_eq!(rare_rules(50), [""; 0], "every rule of the 82C53");
 }
 
@@ -70,6 +76,37 @@ fn raw_records() {
     assert_eq!((total.calls, total.of_the_board), (18 * RECORDS, 7 * RECORDS));
     assert!((total.calls / 40..total.calls / 5).contains(&total.in_power_down), "{total:?}");
     assert!(total.woken > RECORDS / 100, "{total:?}");
+}
+
+/// Found, none and refused are all common, and so are an answer exactly at the end of its tolerance, one that a hundredth of a percent
+/// more would bring, and one with a rate on the other side that is as near.
+#[test]
+fn speeds() {
+    let mut outcomes = Outcomes::default();
+    let [mut at_the_end, mut just_outside, mut either_side] = [0; 3];
+    for seed in 0..SPEEDS {
+        let call = speed_call(&mut Rng::part(10, seed));
+        let answer = compare_speed(&call).unwrap_or_else(|what| panic!("speed {seed}: {what}"));
+        outcomes.add(&answer);
+        let SpeedCall { crystal, rate, tolerance } = call;
+        if answer.found == 1 {
+            let (above, below) = rate_of(crystal, answer.smod, answer.th1);
+            let (off, _) = distance(above, below, rate);
+            at_the_end += u64::from(off > 0 && off * 10_000 == u128::from(rate) * u128::from(tolerance) * below);
+            let is_fast = above > u128::from(rate) * below;
+            let is_other = |smod: u8, th1: u8| {
+                let (a, b) = rate_of(crystal, smod, th1);
+                (a > u128::from(rate) * b) != is_fast && distance(a, b, rate).0 * below == off * b
+            };
+            either_side += u64::from(off > 0 && (0..=255).any(|th1| is_other(0, th1) || is_other(1, th1)));
+        } else if answer.code == 0 {
+            just_outside += u64::from(c51::speed(crystal, rate, tolerance + 1).is_ok_and(|found| found.is_some()));
+        }
+    }
+    assert_eq!(outcomes.calls(), SPEEDS);
+    let Outcomes { found, none, refused } = outcomes;
+    let rare = [found, none, refused, at_the_end, just_outside, either_side].iter().any(|&count| count < SPEEDS / 20);
+    assert!(!rare, "{outcomes:?}, {at_the_end} at the end, {just_outside} just outside, {either_side} on either side");
 }
 
 /// Cycles with one pin byte.

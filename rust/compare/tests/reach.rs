@@ -157,6 +157,8 @@ fn a_chip_that_does_not_rest_shortens_the_board() {
 fn faults_and_other_lines_stay() {
     let text = "R 51\nW 152 64\nW 0153 85\nJ 127 +1099511627776\nJ 127 1099511627776 \nj 127 1099511627776\n\nx\nS 1\nJ 0127 0005";
     assert_eq!(script_in_reach(text), text);
+    // a call for a speed, also with numbers past every limit, and one that is none
+    stays("R 51\nW 152 64\n", &["B 11059200 9600 50", "B 0011059200 9600 0", "B 1099511627776 1099511627776 0", "B 1 2"]);
     // the frame of the line that is read as a call waits, and a last line with no newline is a line
     assert_eq!(script_in_reach(&format!("{text}\nJ 127 1099511627776")), format!("{text}\nJ 127 2777"));
 }

@@ -7,10 +7,14 @@ fn soak(line: &str) -> Output {
 
 #[test]
 fn a_small_soak() {
-    let ran = soak("--cycles 100000 --records 500 --seed 3");
+    let ran = soak("--cycles 100000 --records 500 --speeds 2500 --seed 3");
     let out = String::from_utf8(ran.stdout).expect("text");
     assert!(ran.status.success(), "{out}");
     assert!(out.starts_with("seed 3\n500 raw records in 9000 calls, ") && out.ends_with(" s: no difference\n"), "{out}");
+    let (_, outcomes) = out.split_once(" 2500 speeds (").expect("the speeds");
+    let (outcomes, _) = outcomes.split_once(')').expect("what they came to");
+    let counts: Vec<u64> = outcomes.split(' ').filter_map(|word| word.parse().ok()).collect();
+    assert!(counts.len() == 3 && counts.iter().sum::<u64>() == 2_500 && counts.iter().all(|&count| count > 100), "{out}");
 }
 
 #[test]

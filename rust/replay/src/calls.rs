@@ -2,6 +2,7 @@
 use crate::board::BoardCall;
 use crate::lines::Numbers;
 use crate::record;
+use crate::speed::SpeedCall;
 use c51::{call, CallRow, Device};
 use std::fmt;
 
@@ -27,6 +28,8 @@ pub enum Request {
     Call(Call),
     /// A call of the 82C53 or of the board.
     Board(BoardCall),
+    /// The call that asks for a speed.
+    Speed(SpeedCall),
     /// A raw record in place of the device.
     Put(Box<Device>),
     /// The device's numbers.
@@ -57,6 +60,7 @@ impl Request {
             (b"S", numbers) => Some(Request::Put(Box::new(record::of_numbers(numbers)?))),
             (b"D", []) => Some(Request::Dump),
             (&[b'V', letter], numbers) => BoardCall::of(letter, numbers).map(Request::Board),
+            (b"B", &[crystal, rate, tolerance]) => Some(Request::Speed(SpeedCall { crystal, rate, tolerance })),
             _ => Call::of(name, numbers).map(Request::Call),
         }
     }
@@ -108,6 +112,7 @@ impl fmt::Display for Request {
         match self {
             Request::Call(call) => call.fmt(f),
             Request::Board(call) => call.fmt(f),
+            Request::Speed(call) => call.fmt(f),
             Request::Put(device) => write!(f, "S {}", record::text(device)),
             Request::Dump => f.write_str("D"),
         }

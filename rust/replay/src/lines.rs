@@ -125,6 +125,7 @@ mod tests {
     use crate::board::BoardCall;
     use crate::calls::Call;
     use crate::record::{numbers, text};
+    use crate::speed::SpeedCall;
     use c51::Device;
 
     fn call(line: &str) -> Option<Call> {
@@ -203,12 +204,50 @@ mod tests {
         }
     }
 
+    /// The call that asks for a speed has three numbers of 64 bits.
+    #[test]
+    fn calls_for_a_speed() {
+        let most = u64::MAX;
+        for (crystal, rate, tolerance) in [(0, 0, 0), (11_059_200, 9_600, 50), (most, 0, 1), (1, most, 0), (0, 1, most)] {
+            let line = format!("B {crystal} {rate} {tolerance}");
+            let expected = Request::Speed(SpeedCall { crystal, rate, tolerance });
+            assert_eq!(expected.to_string(), line);
+            assert_eq!(request(line.as_bytes()), Some(expected), "{line}");
+        }
+        for line in [
+            "B",
+            "B ",
+            "B 1",
+            "B 1 2",
+            "B 1 2 ",
+            "B 1 2 3 ",
+            "B 1 2 3 4",
+            " B 1 2 3",
+            "B  1 2 3",
+            "B 1  2 3",
+            "B 1 2 3\r",
+            "B1 2 3",
+            "BB 1 2 3",
+            "b 1 2 3",
+            "B x 2 3",
+            "B 1 -2 3",
+            "B 1 2 0.5",
+            "B 1 2 18446744073709551616",
+            "B 1 18446744073709551616 3",
+            "B 18446744073709551616 2 3",
+        ] {
+            assert_eq!(request(line.as_bytes()), None, "{line:?}");
+        }
+    }
+
     #[test]
     fn zeros_before_a_number() {
         let zeros = "0".repeat(1000);
         assert_eq!(call(&format!("W {zeros}137 {zeros}")), Some(Call::Write(137, 0)));
         assert_eq!(call(&format!("J {zeros}127 {zeros}18446744073709551615")), Some(Call::Jump(127, u64::MAX)));
         assert_eq!(call(&format!("T {zeros}1 {zeros}4294967295")), Some(Call::Trace(vec![u32::MAX])));
+        let speed = SpeedCall { crystal: 7, rate: 0, tolerance: u64::MAX };
+        assert_eq!(request(format!("B {zeros}7 {zeros} {zeros}{}", u64::MAX).as_bytes()), Some(Request::Speed(speed)));
     }
 
     #[test]
@@ -263,7 +302,7 @@ mod tests {
             assert_eq!(call(line), None, "{line}");
         }
         // names, also those of calls that are not there yet
-        for line in ["Q", "x", "w 137 1", "d", "o", "z 127 5", "DD", "OO", "B 1 2 3", "P", "Q 00", "H 1 0", "F 127", "G 127 1", "?"]
+        for line in ["Q", "x", "w 137 1", "d", "o", "z 127 5", "b 1 2 3", "DD", "OO", "P", "Q 00", "H 1 0", "F 127", "G 127 1", "?"]
         {
             assert_eq!(call(line), None, "{line}");
         }

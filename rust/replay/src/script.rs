@@ -103,6 +103,10 @@ impl<W: Write> Replay<W> {
                 self.run_list()?;
                 call.answer(&mut self.board, &mut self.out)
             }
+            Some(Request::Speed(call)) => {
+                self.run_list()?;
+                call.answer(&mut self.out)
+            }
             Some(Request::Put(device)) => {
                 self.run_list()?;
                 self.board.device = *device;

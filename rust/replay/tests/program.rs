@@ -79,6 +79,7 @@ fn each_line_is_answered_at_once() {
         ("O\n", "0 none\n"),
         ("L 127 5\n", "0 none\n"),
         ("VB 127 7\n", "0 1 0\n"),
+        ("B 11059200 9600 50\n", "0 0 253 9600\n"),
         ("r 1\n", "3 0\n"),
     ] {
         session.send(line.as_bytes());

@@ -15,8 +15,9 @@ const RESET: &str = "52 0 0 0 0 0 0 0 0 0 0 0 0 0 0 0 0 0 0 0 0 0 0 0 1 0 0 0 0 
 const ZEROS: &str = "0 0 0 0 0 0 0 0 0 0 0 0 0 0 0 0 0 0 0 0 0 0 0 0 0 0 0 0 0 0 0 0 0 0 0 0 0 0 0 0 0";
 
 /// Every form of a line, with its answer: Timer 0 overflows in idle, its interrupt is taken, and power-down follows, in which counter 0
-/// of the 82C53 goes on, in mode 2 with a count of 257.
-const LINES: [(&str, &str); 68] = [
+/// of the 82C53 goes on, in mode 2 with a count of 257. A speed is asked for on the way, and before all else.
+const LINES: [(&str, &str); 76] = [
+    ("B 11059200 9600 0", "0 0 253 9600"),
     ("D", ZEROS),
     ("O", "1 0"),
     ("R 52", "0 0"),
@@ -38,6 +39,11 @@ const LINES: [(&str, &str); 68] = [
     ("C 127", "0 1"),
     ("C 128", "4 0"),
     ("J 127 1", "0 0"),
+    ("B 12000000 9600 50", "0 none"),
+    ("B 12000000 9600 700", "0 1 249 8928"),
+    ("B 12000000 9600 10001", "14 0 0 0"),
+    ("B 1 1 010000", "0 1 255 0"),
+    ("B 12000000 9600", "?"),
     ("J  127 1", "?"),
     ("O", "0 none"),
     ("T 2 2130706433 2130706432", "8 0"),
@@ -78,11 +84,13 @@ const LINES: [(&str, &str); 68] = [
     ("VX 127 7 1099511627777", "5 0 0"),
     ("VX 127 1 257000000000", "0 0 0"),
     ("V R", "?"),
+    ("B 18446744073709551615 0 18446744073709551615", "14 0 0 0"),
     ("J 127 1", "0 0"),
     ("D", "52 2 16 1 1 0 0 0 0 0 130 0 0 0 0 0 0 0 0 0 0 0 0 0 1 0 0 0 0 0 0 0 0 3 1 1 1 1 1 1 1"),
     ("R 53", "2 0"),
     ("VB 127 7", "1 0 0"),
     ("VX 127 7 1", "1 0 0"),
+    ("B 4608 7 10000", "0 0 254 6"),
     ("VR", "0 0"),
     ("VC 1", "0 0"),
 ];
@@ -134,6 +142,19 @@ fn each_chip_has_its_own_reset() {
 fn the_board_among_lists() {
     let text = "R 52\nW 137 2\nW 136 16\nC 127\nVB 127 0\nr 138\nJ 127 3\nVX 126 0 4\nr 138\nC 127\nr 138\n";
     assert_eq!(answers(text.as_bytes()), "0 0\n0 0\n0 0\n0 1\n0 1 0\n0 2\n0 0\n0 0 0\n0 9\n0 1\n0 10\n");
+}
+
+/// A call for a speed leaves both chips, also among calls that would run as one list.
+#[test]
+fn a_speed_among_lists() {
+    let before = "R 52\nW 137 2\nW 136 16\nC 127\nVW 3 16\nVW 0 9\nVC 1\n";
+    let after = "r 138\nC 127\nr 138\nVr 0\nD\n";
+    let plain = answers(format!("{before}{after}").as_bytes());
+    let (first, last) = plain.split_at("0 0\n0 0\n0 0\n0 1\n0 0\n0 0\n0 0\n".len());
+    let speeds = "B 12681216 257 10000\nB 12000000 9600 699\nB 0 0 0\n";
+    let asked = answers(format!("{before}{speeds}{after}").as_bytes());
+    assert_eq!(asked, format!("{first}0 0 128 258\n0 none\n14 0 0 0\n{last}"));
+    assert_eq!(answers(format!("D\n{speeds}D\n").as_bytes()), format!("{ZEROS}\n0 0 128 258\n0 none\n14 0 0 0\n{ZEROS}\n"));
 }
 
 #[test]

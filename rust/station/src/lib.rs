@@ -6,5 +6,6 @@ pub mod options;
 pub mod reader;
 pub mod report;
 pub mod run;
+pub mod speed;
 pub mod timing;
 pub mod vcd;

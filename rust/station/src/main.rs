@@ -1,7 +1,9 @@
-//! Eleven stations side by side: prints each tag with its station and cycle, and checks that every digit is the one sent.
-//! Exit status: 0 all as sent, 1 a wrong tag, 2 a bad command line or a file that cannot be written.
+//! Eleven stations side by side: prints each tag with its station and cycle, and checks that every digit is the one sent. With
+//! `--speed`, which is used alone, it prints SMOD and TH1 for a crystal and a rate instead.
+//! Exit status: 0 all as sent, or a speed found; 1 a wrong tag, or no speed within the tolerance; 2 a bad command line or a file
+//! that cannot be written.
 use station::options::{Options, USAGE};
-use station::{report, run};
+use station::{report, run, speed};
 use std::fs::File;
 use std::io::{ErrorKind, Write};
 use std::process::exit;
@@ -45,6 +47,10 @@ fn main() {
     let options = Options::parse(words).unwrap_or_else(|why| fail(2, &format!("{why}\n{USAGE}")));
     if options.help {
         return print(&format!("{USAGE}\n"));
+    }
+    if let Some(wanted) = options.speed {
+        print(&speed::report(&wanted));
+        exit(if wanted.found().is_some() { 0 } else { 1 });
     }
     let csv = options.csv.map(Output::create);
     let vcd = options.vcd.map(Output::create);

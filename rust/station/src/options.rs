@@ -2,8 +2,10 @@
 use crate::chips::CYCLES_A_SECOND;
 use crate::frame::SAMPLES;
 use crate::run::{Plan, DIGITS};
+use crate::speed::Wanted;
 
 pub const USAGE: &str = "usage: station [OPTIONS]
+       station --speed CRYSTAL RATE TOLERANCE
   --tags N        tags to send in all, in turn over the stations (33)
   --gap SECONDS   idle time before each tag, 0.0001 to 1000000 (1)
   --stations N    stations side by side, 1 to 1000 (11)
@@ -13,6 +15,9 @@ pub const USAGE: &str = "usage: station [OPTIONS]
   --csv FILE      write the table as CSV too
   --vcd FILE      write a waveform of a station around each tag, for GTKWave
   --vcd-station N its number (1); stations 1 and 2 have an 82C53
+  --speed CRYSTAL RATE TOLERANCE
+                  alone: find SMOD and TH1 for a crystal in Hz, 1 to 40000000, a rate in bits a second, 1 to 1000000, and
+                  a tolerance in hundredths of a percent, 0 to 10000; exit status 1 where there is none
   --help          print this";
 
 const MOST_STATIONS: u64 = 1000;
@@ -26,16 +31,22 @@ pub struct Options {
     pub vcd: Option<String>,
     /// The station of the waveform.
     pub vcd_station: usize,
+    /// The speed that is asked for, in place of a run.
+    pub speed: Option<Wanted>,
     pub help: bool,
 }
 
+/// A word of digits alone as a number within limits.
+pub fn whole(word: &str, least: u64, most: u64) -> Option<u64> {
+    let digits = !word.is_empty() && word.bytes().all(|b| b.is_ascii_digit());
+    word.parse().ok().filter(|n| digits && (least..=most).contains(n))
+}
+
 fn number(name: &str, value: &str, least: u64, most: u64) -> Result<u64, String> {
-    let digits = !value.is_empty() && value.bytes().all(|b| b.is_ascii_digit());
-    match value.parse() {
-        Ok(n) if digits && (least..=most).contains(&n) => Ok(n),
-        _ if most == u64::MAX => Err(format!("{name} wants a whole number from {least} on, not '{value}'")),
-        _ => Err(format!("{name} wants a whole number from {least} to {most}, not '{value}'")),
-    }
+    whole(value, least, most).ok_or_else(|| match most {
+        u64::MAX => format!("{name} wants a whole number from {least} on, not '{value}'"),
+        _ => format!("{name} wants a whole number from {least} to {most}, not '{value}'"),
+    })
 }
 
 /// The gap in cycles.
@@ -60,9 +71,17 @@ fn tag(value: String) -> Result<String, String> {
 impl Options {
     pub fn parse(words: impl Iterator<Item = String>) -> Result<Options, String> {
         let plan = Plan { stations: 11, tags: 0, gap: CYCLES_A_SECOND, seed: 1, noise: 1, chosen: Vec::new() };
-        let mut options = Options { plan, csv: None, vcd: None, vcd_station: 1, help: false };
+        let mut options = Options { plan, csv: None, vcd: None, vcd_station: 1, speed: None, help: false };
+        let words: Vec<String> = words.collect();
+        if let Some((before, after)) = words.iter().position(|word| word == "--speed").map(|at| (&words[..at], &words[at + 1..])) {
+            if let Some(other) = before.first() {
+                return Err(format!("--speed is used alone, not with '{other}'"));
+            }
+            options.speed = Some(Wanted::parse(after)?);
+            return Ok(options);
+        }
         let mut tags = None;
-        let mut words = words.peekable();
+        let mut words = words.into_iter().peekable();
         while let Some(name) = words.next() {
             if name == "--help" {
                 options.help = true;
@@ -122,6 +141,9 @@ mod tests {
         assert_eq!(options.plan.chosen, ["123456789012345", "000000000000000", "999999999999999"]);
         assert_eq!(parse("--tag 123456789012345 --tags 7").unwrap().plan.tags, 7);
         assert!(parse("--help").unwrap().help);
+        assert_eq!(parse("").unwrap().speed, None);
+        let speed = parse("--speed 11059200 9600 50").unwrap().speed;
+        assert_eq!(speed, Some(Wanted { crystal: 11_059_200, rate: 9_600, tolerance: 50 }));
     }
 
     #[test]
@@ -153,6 +175,14 @@ mod tests {
             ("--tag", "--tag wants a value"),
             ("--frequency 12", "unknown option '--frequency'"),
             ("5", "unknown option '5'"),
+            ("--speed", "--speed wants three whole numbers, CRYSTAL RATE TOLERANCE, not 0"),
+            ("--speed 11059200 9600", "--speed wants three whole numbers, CRYSTAL RATE TOLERANCE, not 2"),
+            ("--speed 11059200 9600 10001", "TOLERANCE of --speed is a whole number"),
+            ("--speed 11059200 9600 50 --tags 5", "--speed is used alone, not with '--tags'"),
+            ("--tags 5 --speed 11059200 9600 50", "--speed is used alone, not with '--tags'"),
+            ("--help --speed 11059200 9600 50", "--speed is used alone, not with '--help'"),
+            ("--speed 11059200 9600 50 --speed 11059200 9600 50", "--speed is used alone, not with '--speed'"),
+            ("--csv --speed 11059200 9600 50", "--speed is used alone, not with '--csv'"),
         ];
         for (line, message) in lines {
             let why = parse(line).unwrap_err();

@@ -145,6 +145,38 @@ fn bad_command_lines() {
     assert!(text(&ran.stderr).contains("cannot write"));
 }
 
+/// Found, none, and numbers outside their limits: what is printed, and the exit status.
+#[test]
+fn a_speed() {
+    let ran = station("--speed 11059200 9600 50");
+    assert_eq!((ran.status.code(), text(&ran.stderr).as_str()), (Some(0), ""));
+    let out = text(&ran.stdout);
+    assert!(out.contains("\nSMOD       0 (") && out.contains("\nTH1        FD hex, 253 decimal\n"), "{out}");
+    assert!(out.starts_with("crystal    11,059,200 Hz (11.0592 MHz)\n") && out.ends_with("\nerror      exact\n"), "{out}");
+
+    let ran = station("--speed 12000000 9600 699");
+    assert_eq!((ran.status.code(), text(&ran.stderr).as_str()), (Some(1), ""));
+    let out = text(&ran.stdout);
+    assert!(out.contains("\nNONE       ") && out.contains("\nerror      -6.9940 %, too slow\n"), "{out}");
+    assert!(out.ends_with("\ntolerance  700 (7.00 %) would take it\n"), "{out}");
+    let ran = station("--speed 12000000 9600 700");
+    assert_eq!(ran.status.code(), Some(0));
+    assert!(!text(&ran.stdout).contains("NONE"));
+
+    for (line, message) in [
+        ("--speed 40000001 9600 50", "CRYSTAL of --speed is a whole number of Hz from 1 to 40,000,000, not '40000001'"),
+        ("--speed 11059200 0 50", "RATE of --speed is a whole number of bits a second from 1 to 1,000,000, not '0'"),
+        ("--speed 11059200 9600 10001", "TOLERANCE of --speed is a whole number of hundredths of a percent from 0 to 10,000"),
+        ("--speed 11059200 9600", "--speed wants three whole numbers, CRYSTAL RATE TOLERANCE, not 2"),
+        ("--speed 11059200 9600 50 --tags 3", "--speed is used alone, not with '--tags'"),
+    ] {
+        let ran = station(line);
+        let said = text(&ran.stderr);
+        assert_eq!((ran.status.code(), ran.stdout.as_slice()), (Some(2), &b""[..]), "{line}");
+        assert!(said.contains(message) && said.contains("usage: station"), "{line}: {said}");
+    }
+}
+
 #[test]
 fn help() {
     let ran = station("--help");

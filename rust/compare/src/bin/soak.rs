@@ -1,38 +1,43 @@
-//! The soak: random lists and raw records, of both chips, through the library and the model for as long as wanted.
+//! The soak: random lists and raw records, of both chips, and speeds, through the library and the model for as long as wanted.
 use compare::lists::{run_list, run_record, script, styles};
 use compare::pair::{Pair, Tally};
+use compare::speeds::{compare_speed, speed_call, Outcomes};
 use compare::STAGE;
 use random::Rng;
 use std::path::PathBuf;
 use std::process::exit;
 use std::time::{Duration, Instant, SystemTime, UNIX_EPOCH};
 
-const USAGE: &str = "usage: soak [--cycles N] [--records N] [--seed S]
+const USAGE: &str = "usage: soak [--cycles N] [--records N] [--speeds N] [--seed S]
   --cycles N   cycles of mixed lists to compare (1000000000)
   --records N  boards of raw records to compare, every call on each (10000000)
+  --speeds N   calls for a speed to compare (1000000)
   --seed S     the seed (taken from the clock)
   --help       print this";
 
 const LINES: u64 = 2_000;
 const LISTS_A_SCRIPT: u64 = 200;
 const LIST_LENGTH: u64 = 50;
-const RECORDS_AT_A_TIME: u64 = 1_000;
+/// Records and speeds at a time.
+const AT_A_TIME: u64 = 1_000;
 const PROGRESS: Duration = Duration::from_secs(5);
 
 struct Options {
     cycles: u64,
     records: u64,
+    speeds: u64,
     seed: u64,
 }
 
 /// The options, or none where help is asked for.
 fn options(mut words: impl Iterator<Item = String>) -> Result<Option<Options>, String> {
     let clock = SystemTime::now().duration_since(UNIX_EPOCH).map_or(0, |time| time.as_secs());
-    let mut options = Options { cycles: 1_000_000_000, records: 10_000_000, seed: clock };
+    let mut options = Options { cycles: 1_000_000_000, records: 10_000_000, speeds: 1_000_000, seed: clock };
     while let Some(word) = words.next() {
         let place = match word.as_str() {
             "--cycles" => &mut options.cycles,
             "--records" => &mut options.records,
+            "--speeds" => &mut options.speeds,
             "--seed" => &mut options.seed,
             "--help" => return Ok(None),
             _ => return Err(format!("unknown option {word}")),
@@ -49,6 +54,7 @@ struct Soak {
     lists: Tally,
     records: u64,
     on_records: Tally,
+    speeds: Outcomes,
     start: Instant,
     shown: Instant,
 }
@@ -59,13 +65,15 @@ impl Soak {
             self.shown = Instant::now();
             let (lists, options) = (self.lists, &self.options);
             eprintln!(
-                "{:6} s: {} of {} cycles in {} calls, {} of {} records",
+                "{:6} s: {} of {} cycles in {} calls, {} of {} records, {} of {} speeds",
                 self.start.elapsed().as_secs(),
                 lists.cycles,
                 options.cycles,
                 lists.calls,
                 self.records,
-                options.records
+                options.records,
+                self.speeds.calls(),
+                options.speeds
             );
         }
     }
@@ -94,9 +102,20 @@ impl Soak {
     fn run_records(&mut self) -> Result<(), String> {
         while self.records < self.options.records {
             let mut rng = Rng::part(!self.options.seed, self.records);
-            for _ in 0..RECORDS_AT_A_TIME.min(self.options.records - self.records) {
+            for _ in 0..AT_A_TIME.min(self.options.records - self.records) {
                 self.on_records += run_record(&mut rng)?;
                 self.records += 1;
+            }
+            self.show();
+        }
+        Ok(())
+    }
+
+    fn run_speeds(&mut self) -> Result<(), String> {
+        let mut rng = Rng::part(self.options.seed, u64::MAX);
+        while self.speeds.calls() < self.options.speeds {
+            for _ in 0..AT_A_TIME.min(self.options.speeds - self.speeds.calls()) {
+                self.speeds.add(&compare_speed(&speed_call(&mut rng))?);
             }
             self.show();
         }
@@ -117,17 +136,28 @@ fn main() {
     let Some(options) = options else { return println!("{USAGE}") };
     println!("seed {}", options.seed);
     let now = Instant::now();
-    let mut soak = Soak { options, lists: Tally::default(), records: 0, on_records: Tally::default(), start: now, shown: now };
-    if let Err(what) = soak.run_records().and_then(|()| soak.run_lists()) {
+    let mut soak = Soak {
+        options,
+        lists: Tally::default(),
+        records: 0,
+        on_records: Tally::default(),
+        speeds: Outcomes::default(),
+        start: now,
+        shown: now,
+    };
+    if let Err(what) = soak.run_speeds().and_then(|()| soak.run_records()).and_then(|()| soak.run_lists()) {
         println!("{what}");
         exit(1);
     }
+    let Outcomes { found, none, refused } = soak.speeds;
     println!(
-        "{} raw records in {} calls, {} cycles of lists in {} calls, {} s: no difference",
+        "{} raw records in {} calls, {} cycles of lists in {} calls, {} speeds ({found} found, {none} none, {refused} refused), {} s: \
+         no difference",
         soak.records,
         soak.on_records.calls,
         soak.lists.cycles,
         soak.lists.calls,
+        soak.speeds.calls(),
         soak.start.elapsed().as_secs()
     );
 }

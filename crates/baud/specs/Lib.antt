@@ -1,0 +1,2 @@
+pub mod Speed
+pub mod Cards
