@@ -1,11 +1,11 @@
 // The interrupt controller: IE0 and IE1 from their pins, what is seen, the offer, a take and a return.
 ghost use mathlib.Core.Path.{_≡_};
 ghost use mathlib.Core.Bool.{cond};
-ghost use Prim.Native.Nat.{_<_};
+ghost use Prim.Native.Nat.{ℕ, _<_};
 ghost use lib.Dec.{eqb};
 ghost use Rattle.machine.specs.Bits.{bit, clearBit};
 ghost use Rattle.machine.specs.Interrupts as Interrupt;
-ghost use Rattle.interrupts.specs.Number.{numberOf, firstSet};
+ghost use Rattle.interrupts.specs.Number.{numberOf, firstSet, holding};
 use laws::picked;
 use machine::Interrupts;
 use machine::places::EA;
@@ -61,16 +61,16 @@ fn first_of(sources: u8) -> u8
     u8::trailing_zeros(sources | (1 << NONE)) as u8
 }
 
-// The number of the source that is offered out of power-down, or NONE.
-fn choice(i: Interrupts) -> u8
-    ensures { λ r. ⌜ r ≡ numberOf (Interrupt.choice i) ⌝ }
+// The number of the source that is offered out of power-down, or NONE: from these five numbers alone, whatever seen holds.
+fn choice(polled: u8, ie: u8, ip: u8, low: u8, high: u8) -> u8
+    ensures { λ r. ⌜ ((seen : ℕ) → r ≡ numberOf (Interrupt.choice (holding polled ie ip low high seen))) ⌝ }
 {
-    let enabled = picked(((i.ie >> EA) & 1) == 1, i.ie & SOURCES, 0);
-    let asking = i.polled & enabled;
-    let marked = asking & i.ip;
-    let unmarked = picked(i.low == 1, 0, asking);
+    let enabled = picked(((ie >> EA) & 1) == 1, ie & SOURCES, 0);
+    let asking = polled & enabled;
+    let marked = asking & ip;
+    let unmarked = picked(low == 1, 0, asking);
     let chosen = picked(marked == 0, unmarked, marked);
-    first_of(picked(i.high == 1, 0, chosen))
+    first_of(picked(high == 1, 0, chosen))
 }
 
 // The number of the source that is offered, or NONE: none in power-down.
@@ -80,7 +80,7 @@ pub fn offered(pcon: u8, i: Interrupts) -> u8
     if laws::powered_down(pcon) {
         return NONE;
     }
-    choice(i)
+    choice(i.polled, i.ie, i.ip, i.low, i.high)
 }
 
 // An interrupt is offered.

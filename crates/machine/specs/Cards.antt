@@ -22,7 +22,7 @@ use Rattle.machine.specs.Lists.Value.{none}
 use Rattle.machine.specs.Replies.{sameNumbers, sameValue, sameReply, sameReplies}
 
 -- a row: the card's number, the kind, the calls, and what has to hold of the run. Cards 1 to 10 are numbered by their place in document
--- 01, 11 to 16 are those of request One, 17 to 21 of request Two
+-- 01, 11 to 16 are those of request One, 17 to 21 of request Two, 22 and 23 of request Five
 pub record Row : Type 0 where
   pub card : ℕ
   pub kind : ℕ
@@ -490,6 +490,52 @@ card21 t2con count =
 card21again : Row
 card21again = rowOf 21 52 (timer2At 0x00 0xff ++ (set T2CON 0x84 ∷ wakes 9 1 ∷ step high ∷ offers 0x2b ∷ []))
 
+-- Request Five. IE 9A; TF0, TF1 and TI polled, and no cycle after that; IP 00, then 08, 10 and 00 again. While low is in service a
+-- source is offered only if it is IP-marked, while high is none is; a return clears high, or else low
+card22 : ℕ → Row
+card22 kind =
+    rowOf 22 kind (
+    set IE 0x9a
+    ∷ set TCON 0xa0
+    ∷ set SCON 0x02
+    ∷ go 2
+    ∷ offers 0x0b
+    ∷ asked take (gives 0x0b)
+    ∷ offersNone
+    ∷ set IP 0x08
+    ∷ offers 0x1b
+    ∷ asked take (gives 0x1b)
+    ∷ offersNone
+    ∷ set IP 0x10
+    ∷ offersNone
+    ∷ asked return passes
+    ∷ offers 0x23
+    ∷ set IP 0x00
+    ∷ offersNone
+    ∷ asked return passes
+    ∷ offers 0x23
+    ∷ []
+    )
+
+-- seen has no part in an offer. TF0 written by software, IE 82: after 1 it is seen and none is offered, after 2 it is polled and 000B
+-- is. TF0 cleared: after 1 it is polled still, seen no more, and 000B is offered; after 2 none is
+card23 : ℕ → Row
+card23 kind =
+    rowOf 23 kind (
+    set IE 0x82
+    ∷ set TCON 0x20
+    ∷ go 1
+    ∷ offersNone
+    ∷ go 1
+    ∷ offers 0x0b
+    ∷ set TCON 0x00
+    ∷ go 1
+    ∷ offers 0x0b
+    ∷ go 1
+    ∷ offersNone
+    ∷ []
+    )
+
 -- on both kinds
 both : (ℕ → Row) → List Row
 both card = card 51 ∷ card 52 ∷ []
@@ -554,6 +600,8 @@ cards =
     ∷ card21 0xa4 0xff
     ∷ card21again
     ∷ [])
+    ∷ both card22
+    ∷ both card23
     ∷ []
     )
 
@@ -564,5 +612,5 @@ failing (r ∷ rs) = cond (r .test (machine (r .kind) (r .calls))) (failing rs) 
 
 -- no row fails
 cards-hold : failing cards ≡ []
-unfolding sameNumbers sameValue sameReply sameReplies rowWith card1 card2 card3 card4 baud2 card5 card5counted mode1send card6 card6half card7 card8 card8shift card9 card10 card11 card12 card12line card13 card14 card15 card16 timer2At card17 card17by card17counter card18 card18both card19 card20 card20counter card21 card21again both joined cards failing table implementedIn implemented registers hiddenFields accepted pinsOf levelsOf zeros resetOf count13 count16 reload8 count8 hold enabled clocked countIn flagged counts0 counts1 countsHigh0 pair0 high0 highOverflow0 pair1 timerFlags timersStep countOnce countTimes baudRate countsOf2 heedsT2EX captures counted2 baudStep copied2 captureStep timer2Step halfAfter ticks1 ticksOf serialTicks sendMove sendTick sendTicks send lineOf startFound receiveStart receiveRolled receiveCounted votesAdded bitOf frameDone receiveBit receiveWork receiveTick receiveTicks receiveShift receive serialStep writeSbuf receiveAsked writeScon external either seenOf firstOf choice offered inService taken returned falls counted externals timersAfter timer2After ticksIn stepsOf cycleOf cycles resetAnswer valueIn registerAt readAnswer stored writeAnswer cycleAnswer cyclesFault jumpAnswer entryFault firstBad traceFault traceCycles traceAnswer flags anyRises firstCycle lookAnswer wakeAnswer offerOf offerAnswer takeOf takeAnswer returnAnswer play run machine
+unfolding sameNumbers sameValue sameReply sameReplies rowWith card1 card2 card3 card4 baud2 card5 card5counted mode1send card6 card6half card7 card8 card8shift card9 card10 card11 card12 card12line card13 card14 card15 card16 timer2At card17 card17by card17counter card18 card18both card19 card20 card20counter card21 card21again card22 card23 both joined cards failing table implementedIn implemented registers hiddenFields accepted pinsOf levelsOf zeros resetOf count13 count16 reload8 count8 hold enabled clocked countIn flagged counts0 counts1 countsHigh0 pair0 high0 highOverflow0 pair1 timerFlags timersStep countOnce countTimes baudRate countsOf2 heedsT2EX captures counted2 baudStep copied2 captureStep timer2Step halfAfter ticks1 ticksOf serialTicks sendMove sendTick sendTicks send lineOf startFound receiveStart receiveRolled receiveCounted votesAdded bitOf frameDone receiveBit receiveWork receiveTick receiveTicks receiveShift receive serialStep writeSbuf receiveAsked writeScon external either seenOf firstOf choice offered inService taken returned falls counted externals timersAfter timer2After ticksIn stepsOf cycleOf cycles resetAnswer valueIn registerAt readAnswer stored writeAnswer cycleAnswer cyclesFault jumpAnswer entryFault firstBad traceFault traceCycles traceAnswer flags anyRises firstCycle lookAnswer wakeAnswer offerOf offerAnswer takeOf takeAnswer returnAnswer play run machine
 cards-hold = refl

@@ -1,10 +1,10 @@
-//! The benchmark: single cycles, the idle station, a device at rest and in power-down, the 82C53 and the board, a speed, a frame,
-//! and a thousand tags, next to the plain model and to other programs.
+//! The benchmark: single cycles, offers, the idle station, a device at rest and in power-down, the 82C53 and the board, a speed, a
+//! frame, and a thousand tags, next to the plain model and to other programs.
 use bench::others::{emu8051, s51, Figure};
 use bench::plain::Plain;
 use bench::tight::Idle;
 use bench::timing::{race, seconds, Contender};
-use c51::{address, control, pcon, pin, port, raw, Board, Device, Interval, GATES_HIGH, MAX_CYCLES, PINS_HIGH};
+use c51::{address, control, flag, pcon, pin, port, raw, Board, Device, Interval, GATES_HIGH, MAX_CYCLES, PINS_HIGH};
 use c51model::baud::find_speed;
 use c51model::model::set_stage;
 use compare::record::{interval_to_model, to_model};
@@ -40,6 +40,7 @@ fn main() {
     println!("Times of this machine: {}", processor());
     println!("Each is the best of {RUNS} runs, contenders in turn.");
     single_cycles(part);
+    offers(part);
     let per_cycle = idle_station(part);
     at_rest(part);
     power_down(part);
@@ -82,6 +83,8 @@ fn all_running() -> Device {
         (address::TMOD, 0x11),
         (address::RCAP2L, 0xFD),
         (address::RCAP2H, 0xFF),
+        (address::TL2, 0xFD),
+        (address::TH2, 0xFF),
         (address::T2CON, 0x34),
         (address::SCON, 0xD0),
         (address::SBUF, 0x55),
@@ -133,6 +136,68 @@ fn single_cycles(part: u64) {
         println!("\nA single cycle, {what}:");
         lines(&contenders, &times, cycles, ("ns", 1e9), 1);
     }
+}
+
+/// Two interrupts ask, that of the serial port with the high priority: IE 92, IP 10, TF0 and TI polled.
+fn asked() -> Device {
+    let mut device = Device::reset(52).expect("a kind");
+    for (address, value) in [(address::IE, 0x92), (address::IP, 0x10), (address::TCON, flag::TF0), (address::SCON, flag::TI)] {
+        device.write(address, value).expect("a register");
+    }
+    device.jump(PINS_HIGH, 2).expect(PASSES);
+    device
+}
+
+/// Calls of a run where one takes some ten nanoseconds.
+const MANY_CALLS: u64 = 1_000_000;
+/// Cycles of a frame being sent in which no flag rises and nothing is offered, each a round.
+const SENDING: u64 = 80;
+
+/// An offer next to the record check with which it begins, so that the choice of a source is what it takes more; and wake looks,
+/// which ask for an offer after every round, next to look aheads.
+fn offers(part: u64) {
+    let calls = MANY_CALLS / part;
+    let device = asked();
+    let model = to_model(&device);
+    assert_eq!((device.offer(), model.offer()), (Ok(Some(0x23)), Ok(Some(0x23))), "the serial port's vector");
+    let mut contenders = [
+        Contender::new("offer (c51_offer)", || {
+            for _ in 0..calls {
+                black_box(raw::c51_offer(black_box(device)));
+            }
+        }),
+        Contender::new("record check (c51_accepts)", || {
+            for _ in 0..calls {
+                black_box(raw::c51_accepts(black_box(device)));
+            }
+        }),
+        Contender::new("offer, plain model", || {
+            for _ in 0..calls {
+                black_box(black_box(model).offer()).expect("an offer");
+            }
+        }),
+        Contender::new("wake look that names 0 (c51_wake)", || wake_look(device, 1, calls)),
+    ];
+    let times = race(RUNS, &mut contenders);
+    println!("\nAn offer, two interrupts asking:");
+    lines(&contenders, &times, calls, ("ns", 1e9), 1);
+
+    let sending = all_running();
+    let mut sent = sending;
+    for _ in 0..SENDING {
+        sent.cycle(PINS_HIGH).expect("a cycle");
+        assert_ne!(sent.serial.send.position, 0, "a frame is under way, so that each cycle is a round");
+    }
+    assert_eq!(sent.serial.send.position, 11, "its last bit");
+    assert_eq!((sending.wake_look(PINS_HIGH, SENDING), sending.look_ahead(PINS_HIGH, SENDING)), (Ok(None), Ok(None)));
+    let calls = CALLS / part;
+    let mut contenders = [
+        Contender::new("wake look (c51_wake)", || wake_look(sending, SENDING, calls)),
+        Contender::new("look ahead (c51_look)", || look_ahead(sending, SENDING, calls)),
+    ];
+    let times = race(RUNS, &mut contenders);
+    println!("Looks over {SENDING} cycles of a frame being sent, a cycle:");
+    lines(&contenders, &times, calls * SENDING, ("ns", 1e9), 1);
 }
 
 /// Gives the library's seconds a cycle.

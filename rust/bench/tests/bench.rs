@@ -47,6 +47,9 @@ fn missing_programs_are_named_and_left_out() {
     assert!(ran.status.success(), "{out}");
     for part in [
         "A single cycle, idle station:",
+        "An offer, two interrupts asking:\n  offer (c51_offer) ",
+        "x record check (c51_accepts)\n  wake look that names 0 (c51_wake) ",
+        "Looks over 80 cycles of a frame being sent, a cycle:\n  wake look (c51_wake) ",
         "The idle station,",
         "Looks over all of them, in which Timer 1 alone reloads and nothing is found:\n  look ahead (c51_look) ",
         "x look ahead (c51_look)\n  wake look (c51_wake) ",

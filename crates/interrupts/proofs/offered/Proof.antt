@@ -13,7 +13,7 @@ returns-2 : tie.Need-returns-2
 unfolding offered
 returns-2 c =
     let p = c .before in
-    rw (sym (p .before .powered-down .ensures) ∙ p .if1 .left) (c .choice .ensures)
+    rw (sym (p .before .powered-down .ensures) ∙ p .if1 .left) (c .choice .ensures (p .before .before .args .i .seen))
 
 pub offered-spec : {M : Type 1} → statement M
 offered-spec = tie.close (tie.spec (search needs) returns (search needs) returns-2)
