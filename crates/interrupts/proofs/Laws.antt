@@ -13,7 +13,7 @@ use Rattle.laws.proofs.Tests.{all, at}
 use Rattle.machine.specs.Bits.{bit}
 use Rattle.machine.specs.Registers.{IE0, TF0, IE1, TF1, RI, TI, TF2, EXF2, EA}
 use Rattle.machine.specs.declared.Interrupts.{Interrupts}
-use Rattle.machine.specs.Interrupts.{Source, none, source, either, seenOf, firstOf, sources, asks, asksMarked, orElse, choice, vectorOf}
+use Rattle.machine.specs.Interrupts.{Source, none, source, someSource, either, seenOf, firstOf, sources, asks, asksMarked, orElse, choice, vectorOf}
 use Rattle.interrupts.specs.Number.{numberOf, firstSet}
 
 -- the four flags of TCON in seen
@@ -120,21 +120,16 @@ first-set f x e =
     (cond (e 3 refl j) (source 3) (cond (e 4 refl j) (source 4) (cond (e 5 refl j) (source 5) none)))))
 
 -- any of the six bits set is a source
-is-source : Source → Bool
-is-source none = false
-is-source (source k) = true
-
 names : ℕ → Bool
 names zero = true
-names (suc x) = is-source (firstSet (suc x))
+names (suc x) = someSource (firstSet (suc x))
 
-stands : (s b : Source) → T (is-source s) → orElse s b ≡ s
-unfolding is-source
+stands : (s b : Source) → T (someSource s) → orElse s b ≡ s
 stands none b t = absurd t
 stands (source k) b t = refl
 
 or-else : (x : ℕ) (b : Source) → x < 64 → orElse (firstSet x) b ≡ cond (eqb x 0) b (firstSet x)
-unfolding names is-source firstSet firstOf
+unfolding names firstSet firstOf
 or-else zero b h = refl
 or-else (suc x) b h = rw eqb·suc-zero (stands (firstSet (suc x)) b (at names 64 tt (suc x) h))
 

@@ -491,7 +491,7 @@ card21again : Row
 card21again = rowOf 21 52 (timer2At 0x00 0xff ++ (set T2CON 0x84 ∷ wakes 9 1 ∷ step high ∷ offers 0x2b ∷ []))
 
 -- Request Five. IE 9A; TF0, TF1 and TI polled, and no cycle after that; IP 00, then 08, 10 and 00 again. While low is in service a
--- source is offered only if it is IP-marked, while high is none is; a return clears high, or else low
+-- source is offered only if it is IP-marked, and while high is in service none is; a return clears high, or else low
 card22 : ℕ → Row
 card22 kind =
     rowOf 22 kind (
