@@ -18,12 +18,14 @@ speed: lib
 	@cd rust && cargo build --release --offline --quiet -p station
 	@rust/target/release/station --speed $(SPEED) || [ $$? = 1 ]
 
-# The C library: dist/libc51.a, of the exports of c51_lent and board_lent, and dist/c51.h.
+# The C library: dist/libc51.a, of the exports of these crates, and dist/c51.h. Each archive is compiled by itself, and a function is
+# made part of its caller only where an archive has one call of it: so the calls that a service makes most have an archive each.
+ARCHIVES = c51_cycle c51_jump c51_trace c51_look c51_wake c51_board_cycle c51_board_jump c51_lent c53_lent
 lib:
 	@mkdir -p dist
 	@echo 'proving and building the library, some minutes the first time; log in dist/build.log'
-	@{ rt staticlib c51_lent && rt staticlib board_lent; } >dist/build.log 2>&1 || { cat dist/build.log; exit 1; }
-	@printf '%s\n' 'CREATE dist/libc51.a' 'ADDLIB target/staticlib/libc51_lent.a' 'ADDLIB target/staticlib/libboard_lent.a' SAVE END | ar -M
+	@for crate in $(ARCHIVES); do rt staticlib $$crate || exit 1; done >dist/build.log 2>&1 || { cat dist/build.log; exit 1; }
+	@{ echo 'CREATE dist/libc51.a'; printf 'ADDLIB target/staticlib/lib%s.a\n' $(ARCHIVES); echo SAVE; echo END; } | ar -M
 	@cp include/c51.h dist/c51.h
 
 # dist/replay, which answers a call script (docs/SCRIPTS.md) on standard input.

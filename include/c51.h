@@ -4,7 +4,8 @@
  *
  * A device is one record, c51_device, which the caller owns: the library keeps nothing between calls, so that any number of
  * devices run side by side and in any number of threads. So is an 82C53, c53_interval, and a board that has both, c51_board. Every
- * call is answered for every content of the record and of its other arguments; only a pointer has to point where its comment says.
+ * call is answered for every content of the record and of its other arguments; only a pointer has to point where its comment says. Of
+ * other libraries it calls memcpy alone.
  *
  * A call answers a code: 0, or the number of the refusal. The lowest number applies, with three exceptions: 10 goes after 1 and
  * before 3, 6 and 7; 12 goes before 11; and in a trace 5 goes first after 1, then the first bad entry, 4 before 8 within it. A
@@ -89,6 +90,18 @@ enum {
     C51_PCON_SMOD = 0x80 /* double baud rate */
 };
 
+/* The flags, by their places in the flag times; TF2 and EXF2 rise on kind 52 alone. */
+enum {
+    C51_FLAG_TF0 = 0,
+    C51_FLAG_TF1 = 1,
+    C51_FLAG_IE0 = 2,
+    C51_FLAG_IE1 = 3,
+    C51_FLAG_RI = 4,
+    C51_FLAG_TI = 5,
+    C51_FLAG_TF2 = 6,
+    C51_FLAG_EXF2 = 7
+};
+
 /* ---------------------------------------------------------------- the record: each field with what an accepted record has in it */
 
 /* Timers 0 and 1. */
@@ -148,6 +161,14 @@ typedef struct {
     uint8_t high;   /* 0 or 1: one of the high level is */
 } c51_interrupts;
 
+/* When each flag last rose, at its C51_FLAG. A flag rises in a cycle that finds it 0 and leaves it 1: one that is set again does
+ * not, and a write by software never counts. Jumps and trace runs leave what their single cycles leave. Reset clears all of it, and
+ * nothing else does: power-down and refused calls keep it. */
+typedef struct {
+    uint8_t ever[8];    /* 0 or 1: the flag rose since reset; those of TF2 and EXF2 may be 1 on kind 51 too */
+    uint64_t number[8]; /* the cycle number after the cycle in which it last rose, which may be any; 0 where ever is 0 */
+} c51_flag_times;
+
 /* The device record. */
 typedef struct {
     uint8_t kind; /* 51 or 52 */
@@ -158,10 +179,18 @@ typedef struct {
     c51_interrupts interrupts;
     uint8_t levels[7]; /* 0 or 1: the levels of the last cycle, RXD INT0 INT1 T0 T1 T2 T2EX */
     uint64_t cycle;    /* the cycle number, which wraps */
+    c51_flag_times times;
 } c51_device;
 
 /* The record is laid out as the library has it; with another layout, as of packed structs, this does not compile. */
-typedef char c51_device_layout[sizeof(c51_device) == 56 && offsetof(c51_device, cycle) == 48 ? 1 : -1];
+typedef char c51_device_layout[sizeof(c51_device) == 128 && offsetof(c51_device, times) == 56 ? 1 : -1];
+
+/* Of an accepted device and a C51_FLAG: 1 where the flag rose since reset, 0 where it never did. */
+#define C51_EVER_ROSE(device, flag) ((device).times.ever[flag])
+
+/* The cycle number after the cycle in which the flag last rose, 0 where it never did. It wraps with the cycle number, so that one
+ * that rose may have 0 too; C51_EVER_ROSE tells them apart. */
+#define C51_LAST_RISE(device, flag) ((device).times.number[flag])
 
 /* ---------------------------------------------------------------- the answers */
 
@@ -369,7 +398,7 @@ typedef struct {
 
 /* As for the device record. */
 typedef char c53_interval_layout[sizeof(c53_interval) == 60 && offsetof(c53_counter, latch) == 18 ? 1 : -1];
-typedef char c51_board_layout[sizeof(c51_board) == 120 && offsetof(c51_board, interval) == 56 ? 1 : -1];
+typedef char c51_board_layout[sizeof(c51_board) == 192 && offsetof(c51_board, interval) == 128 ? 1 : -1];
 
 /* Pulses, and a jump of the board: the outputs as they leave them. */
 typedef struct {

@@ -21,7 +21,7 @@ for kind in 51 52; do
         trace 65537 2147483648
         echo D
     } >"$work/script"
-    after="$kind 0 0 0 0 0 0 0 0 0 0 0 0 0 0 0 0 0 0 0 0 0 0 0 1 0 0 0 0 0 0 0 0 65536 1 1 1 1 1 1 1"
+    after="$kind 0 0 0 0 0 0 0 0 0 0 0 0 0 0 0 0 0 0 0 0 0 0 0 1 0 0 0 0 0 0 0 0 65536 1 1 1 1 1 1 1 0 0 0 0 0 0 0 0 0 0 0 0 0 0 0 0"
     printf '%s\n' '0 0' '0 0' "$after" '5 0' '5 0' "$after" >"$work/answers"
     answered "the longest trace, kind $kind" "$work/script" "$work/answers"
 done

@@ -1,6 +1,7 @@
 #!/bin/sh
 # The C library in dist: its header is the one of include, compiles as C89 and not with another layout of a record,
-# and runs from C++; every function that it declares is exported, and no other c51 or c53 function is.
+# and runs from C++; every function that it declares is exported, and no other c51 or c53 function is; it calls no function
+# of other libraries but memcpy.
 cd "$(dirname "$0")/.." || exit 1
 
 good=0
@@ -18,6 +19,9 @@ done
 for name in $exported; do
     if printf '%s\n' "$declared" | grep -qx "$name"; then ok; else fault "$name is exported and not declared"; fi
 done
+
+asked=$(nm -u dist/libc51.a | sed -n 's/^ *U //p' | sort -u)
+case $asked in '' | memcpy) ok ;; *) fault "it calls $asked" ;; esac
 
 work=$(mktemp -d) || exit 1
 trap 'rm -rf "$work"' EXIT

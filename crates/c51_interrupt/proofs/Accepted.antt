@@ -46,6 +46,7 @@ module _ (d : Device) (a : accepted d ≡ true) where
         interrupts = k;
         levels = r .levels;
         cycle = r .cycle;
+        times = r .times;
       })
 
   -- a take clears IDL

@@ -1,4 +1,4 @@
--- The answers that are enums, and the record check, as numbers for C: a refused call gives its number and zeros.
+-- The answers that are enums, but for those of looks, and the record check, as numbers for C: a refused call gives its number and zeros.
 use Prim.Native.Nat.{ℕ}
 use mathlib.Core.Bool.{cond}
 use Rattle.machine.specs.declared.Device.{Device}
@@ -6,16 +6,13 @@ use Rattle.machine.specs.declared.ReadAnswer.{ReadAnswer}
 use Rattle.machine.specs.declared.ReadAnswer.the-variants as Read
 use Rattle.machine.specs.declared.OfferAnswer.{OfferAnswer}
 use Rattle.machine.specs.declared.OfferAnswer.the-variants as Offer
-use Rattle.machine.specs.declared.LookAnswer.{LookAnswer}
-use Rattle.machine.specs.declared.LookAnswer.the-variants as Look
 use Rattle.machine.specs.Record.{accepted}
-use Rattle.machine.specs.Calls.{readAnswer, offerAnswer, lookAnswer, wakeAnswer}
+use Rattle.machine.specs.Calls.{readAnswer, offerAnswer}
 use Rattle.baud.specs.declared.SpeedAnswer.{SpeedAnswer}
 use Rattle.baud.specs.declared.SpeedAnswer.the-variants as Speed
 use Rattle.baud.specs.Speed.{speed}
 use Rattle.c51_lent.specs.declared.ValueAnswer.{ValueAnswer}
 use Rattle.c51_lent.specs.declared.OfferedAnswer.{OfferedAnswer}
-use Rattle.c51_lent.specs.declared.LookedAnswer.{LookedAnswer}
 use Rattle.c51_lent.specs.declared.FoundAnswer.{FoundAnswer}
 
 -- Read: the value
@@ -34,19 +31,6 @@ offeredOf Offer.Nothing = record { code = 0; offered = 0; vector = 0 }
 
 unfoldable pub offeredAnswer : Device → OfferedAnswer
 offeredAnswer d = offeredOf (offerAnswer d)
-
--- Look ahead: 1 and the cycle, or 0 and 0
-abbrev pub lookedOf : LookAnswer → LookedAnswer
-lookedOf (Look.Refused k) = record { code = k; found = 0; at = 0 }
-lookedOf (Look.At n) = record { code = 0; found = 1; at = n }
-lookedOf Look.Nothing = record { code = 0; found = 0; at = 0 }
-
-unfoldable pub lookedAnswer : Device → ℕ → ℕ → LookedAnswer
-lookedAnswer d pins n = lookedOf (lookAnswer d pins n)
-
--- Wake look: the same
-unfoldable pub wokenAnswer : Device → ℕ → ℕ → LookedAnswer
-wokenAnswer d pins n = lookedOf (wakeAnswer d pins n)
 
 -- The record check: 1 where the record is accepted
 unfoldable pub acceptsAnswer : Device → ℕ

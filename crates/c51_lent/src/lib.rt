@@ -1,20 +1,13 @@
-// The library for C: the calls that alter a device, and whole scripts of calls, over a device record that is lent by reference and
-// altered there, and the others over one passed by value; and the speed finder, which meets no device. Each is thin over the public call
-// of `c51_access`, `c51_interrupt`, `c51_run`, `lists` or `speed`; nothing is asked of the record.
+// The library for C, but for the calls in which time passes, each of which is a crate of its own: the calls that alter a device, and
+// whole scripts of calls, over a device record that is lent by reference and altered there, and the others over one passed by value; and
+// the speed finder, which meets no device. Each is thin over the public call of `c51_access`, `c51_interrupt`, `lists` or `speed`; nothing
+// is asked of the record.
 ghost use mathlib.Core.Path.{_≡_};
 ghost use Rattle.machine.specs.Calls as Machine;
 ghost use Rattle.lists.specs.Script.{script, Replayed};
 ghost use Rattle.c51_lent.specs.Answers as Numbers;
 use machine::Answer;
 use machine::Device;
-use machine::LookAnswer;
-
-// A cycle's code and the output line as it leaves it.
-#[repr(C)]
-pub struct LineAnswer {
-    pub code: u8,
-    pub line: u8,
-}
 
 // A take's code and the vector.
 #[repr(C)]
@@ -38,15 +31,6 @@ pub struct OfferedAnswer {
     pub vector: u8,
 }
 
-// A look's code, 1 where it finds what it looks for, and the cycle in which a flag first rises, or after which an interrupt is first
-// offered.
-#[repr(C)]
-pub struct LookedAnswer {
-    pub code: u8,
-    pub found: u8,
-    pub at: u64,
-}
-
 // The speed finder's code, 1 where there is a pair (`found` in c51.h), its SMOD and TH1, and the rate that it achieves.
 #[repr(C)]
 pub struct FoundAnswer {
@@ -65,39 +49,6 @@ pub extern "C" fn c51_write(d: &mut Device, address: u8, value: u8) -> u8
     let written = c51_access::write(*d, address, value);
     *d = written.device;
     written.code
-}
-
-// One machine cycle with a pin byte: 1, 4.
-#[no_mangle]
-pub extern "C" fn c51_cycle(d: &mut Device, pins: u8) -> LineAnswer
-    ensures { λ r. ⌜ (r .code ≡ Machine.cycleAnswer (now (d .entry)) pins .code) × ((r .line ≡ Machine.cycleAnswer (now (d .entry)) pins .line) × (now (d .exit) ≡ Machine.cycleAnswer (now (d .entry)) pins .device)) ⌝ }
-{
-    let cycled = c51_run::cycle(*d, pins);
-    *d = cycled.device;
-    LineAnswer {
-        code: cycled.code,
-        line: cycled.line,
-    }
-}
-
-// n cycles with one pin byte: 1, 4, 5.
-#[no_mangle]
-pub extern "C" fn c51_jump(d: &mut Device, pins: u8, n: u64) -> u8
-    ensures { λ r. ⌜ (r ≡ Machine.jumpAnswer (now (d .entry)) pins n .code) × (now (d .exit) ≡ Machine.jumpAnswer (now (d .entry)) pins n .device) ⌝ }
-{
-    let jumped = c51_run::jump(*d, pins, n);
-    *d = jumped.device;
-    jumped.code
-}
-
-// A trace run: 1, 5, 4, 8.
-#[no_mangle]
-pub extern "C" fn c51_trace(d: &mut Device, entries: &[u32]) -> u8
-    ensures { λ r. ⌜ (r ≡ Machine.traceAnswer (now (d .entry)) (now (entries .entry)) .code) × (now (d .exit) ≡ Machine.traceAnswer (now (d .entry)) (now (entries .entry)) .device) ⌝ }
-{
-    let ran = c51_run::trace(*d, entries);
-    *d = ran.device;
-    ran.code
 }
 
 // Take what is offered: 1, 10, 6.
@@ -175,45 +126,6 @@ pub extern "C" fn c51_offer(d: Device) -> OfferedAnswer
             vector: 0,
         },
     }
-}
-
-// What a look answers.
-fn looked(a: LookAnswer) -> LookedAnswer
-    ensures { λ r. ⌜ r ≡ Numbers.lookedOf a ⌝ }
-{
-    match a {
-        LookAnswer::Refused(k) => LookedAnswer {
-            code: k,
-            found: 0,
-            at: 0,
-        },
-        LookAnswer::At(n) => LookedAnswer {
-            code: 0,
-            found: 1,
-            at: n,
-        },
-        LookAnswer::Nothing => LookedAnswer {
-            code: 0,
-            found: 0,
-            at: 0,
-        },
-    }
-}
-
-// The first of n cycles with one pin byte in which a flag rises, or none: 1, 4, 5.
-#[no_mangle]
-pub extern "C" fn c51_look(d: Device, pins: u8, n: u64) -> LookedAnswer
-    ensures { λ r. ⌜ r ≡ Numbers.lookedAnswer d pins n ⌝ }
-{
-    looked(c51_run::look(d, pins, n))
-}
-
-// The first k from 0 to n cycles with one pin byte after which an interrupt is offered, or none: 1, 4, 5.
-#[no_mangle]
-pub extern "C" fn c51_wake(d: Device, pins: u8, n: u64) -> LookedAnswer
-    ensures { λ r. ⌜ r ≡ Numbers.wokenAnswer d pins n ⌝ }
-{
-    looked(c51_run::wake(d, pins, n))
 }
 
 // 1 where the record is accepted.

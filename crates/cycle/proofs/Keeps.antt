@@ -19,6 +19,7 @@ use Rattle.machine.specs.Timers.{flagged}
 use Rattle.machine.specs.Cycle.{falls, externals, counted, timersAfter, timer2After, ticksIn, steps, cycleOf}
 use Rattle.laws.specs.Ranges.{TimersOk, Timer2Ok, Absent, TicksOk, Ranges}
 use Rattle.laws.proofs.Bits.{bit-below, bit-set, bit-set-other, flagged-lt}
+use Rattle.laws.proofs.Flags.{times-kept}
 use Rattle.machine.proofs.Choices.{chosen}
 use Rattle.machine.proofs.Rollovers.{few-ticks}
 use Rattle.timers.proofs.Ranges as timers
@@ -125,6 +126,7 @@ module _ (d : Device) (r : Ranges d) where
             };
         levels = levels-keep l;
         cycle = mod-lt (d .cycle + 1) (omega arith);
+        times = times-kept _ _ (d .times) (mod-lt (d .cycle + 1) (omega arith)) (r .times);
       }
 
   pub cycle-ranges : (pins : ℕ) → Ranges (cycleOf pins d)

@@ -8,6 +8,7 @@ use Rattle.machine.specs.declared.Timer2.{Timer2}
 use Rattle.machine.specs.declared.Serial.{Serial}
 use Rattle.machine.specs.declared.Counted.{Counted}
 use Rattle.machine.specs.declared.Ticks.{Ticks}
+use Rattle.machine.specs.declared.FlagTimes.{FlagTimes}
 use Rattle.machine.specs.declared.Device.{Device}
 use Rattle.machine.specs.Bits.{bit}
 use Rattle.machine.specs.Registers.{RXD, ET2}
@@ -16,9 +17,38 @@ use Rattle.machine.specs.Record.{pinsOf, levelsOf}
 use Rattle.machine.specs.Timers.{flagged}
 use Rattle.machine.specs.Serial.{serialStep}
 use Rattle.machine.specs.Interrupts.{seenOf}
+use Rattle.machine.specs.Flags.{flagsOf, flags, risen}
+use Rattle.machine.specs.Times.{timesAfter}
 use Rattle.machine.specs.Cycle.{counted, ticksIn, timersAfter, timer2After, steps, cycleOf}
 
-module _ (d : Device) (l : ℕ) {rxd polled seen number : ℕ} {c : Counted} {k : Ticks} {s : Serial} {t : Timers} {u : Timer2} {now : List ℕ} where
+-- the device with what the steps of a cycle put into it
+abbrev pub with-all : Device → Timers → Timer2 → Serial → ℕ → ℕ → List ℕ → ℕ → FlagTimes → Device
+with-all d t u s seen polled now number times =
+    record {
+      kind = d .kind;
+      pcon = d .pcon;
+      timers = t;
+      timer2 = u;
+      serial = s;
+      interrupts =
+          record {
+            ie = d .interrupts .ie;
+            ip = d .interrupts .ip;
+            seen = seen;
+            polled = polled;
+            low = d .interrupts .low;
+            high = d .interrupts .high;
+          };
+      levels = now;
+      cycle = number;
+      times = times;
+    }
+
+-- the times of the flags after a cycle that leaves these registers
+abbrev pub times-after : Device → ℕ → ℕ → ℕ → ℕ → FlagTimes
+times-after d number tcon scon t2con = timesAfter number (risen (flags d) (flagsOf tcon scon t2con)) (d .times)
+
+module _ (d : Device) (l : ℕ) {rxd polled seen number : ℕ} {c : Counted} {k : Ticks} {s : Serial} {t : Timers} {u : Timer2} {now : List ℕ} {times : FlagTimes} where
   pub steps-are : c ≡ counted d l
       → k ≡ ticksIn d c
       → rxd ≡ bit RXD l
@@ -29,28 +59,10 @@ module _ (d : Device) (l : ℕ) {rxd polled seen number : ℕ} {c : Counted} {k 
       → seen ≡ seenOf (t .tcon) (s .scon) (u .t2con)
       → now ≡ levelsOf l
       → number ≡ (d .cycle + 1) % 2 ^ 64
-      → _≡_ {A = Device}
-      (record {
-        kind = d .kind;
-        pcon = d .pcon;
-        timers = t;
-        timer2 = u;
-        serial = s;
-        interrupts =
-            record {
-              ie = d .interrupts .ie;
-              ip = d .interrupts .ip;
-              seen = seen;
-              polled = polled;
-              low = d .interrupts .low;
-              high = d .interrupts .high;
-            };
-        levels = now;
-        cycle = number;
-      })
-      (steps d l)
+      → times ≡ times-after d number (t .tcon) (s .scon) (u .t2con)
+      → with-all d t u s seen polled now number times ≡ steps d l
   unfolding steps
-  steps-are ec ek er es et eu ep en eo em = rw (ep, en, et, eu, es, eo, em, er, ek, ec)
+  steps-are ec ek er es et eu ep en eo em ef = rw (ef, ep, en, et, eu, es, eo, em, er, ek, ec)
 
 module _ (pins : ℕ) (d : Device) where
   -- out of power-down

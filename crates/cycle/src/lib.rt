@@ -108,7 +108,7 @@ fn ticks_in(d: Device, c: Counted) -> Ticks
     )
 }
 
-// One cycle, steps 1 to 8, with the pin byte as the kind takes it.
+// One cycle, steps 1 to 8, with the pin byte as the kind takes it, and then the times of the flags that rise in it, if one does.
 pub fn cycle_once(d: Device, pins: u8) -> Device
     requires { ⌜ accepted d ≡ true ⌝ }
     ensures { λ r. ⌜ r ≡ Rule.steps d pins ⌝ }
@@ -131,5 +131,26 @@ pub fn cycle_once(d: Device, pins: u8) -> Device
     e.serial = s;
     e.levels = now;
     e.cycle = number;
+    if !flags::any_rises(
+        d.timers.tcon,
+        d.serial.scon,
+        d.timer2.t2con,
+        t.tcon,
+        s.scon,
+        u.t2con,
+    ) {
+        return e;
+    }
+    let times = d.times;
+    e.times = flags::times_after(
+        d.timers.tcon,
+        d.serial.scon,
+        d.timer2.t2con,
+        t.tcon,
+        s.scon,
+        u.t2con,
+        number,
+        times,
+    );
     e
 }

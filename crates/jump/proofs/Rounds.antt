@@ -57,13 +57,9 @@ module _ (pins left : ℕ) (d : Device) where
         reaches = f ∙ sym (stride-law m pins d (ranges-of d a) (omega arith));
       }
 
--- a quiet run to the end: the stride ends where the cycles that are left do
-module _ (pins left : ℕ) (d : Device) (y : Ready pins d) {n : ℕ} (e : n ≡ roomAt pins d) (h : left ≤ n) where
-  pub within-room : left ≤ room pins d
-  within-room = subst (λ (m : ℕ). left ≤ m) (room-is pins d y e) h
-
-  pub quiet-on : {u v : Device} → u ≡ strideAt left pins d → cycles left pins d ≡ v → u ≡ v
-  quiet-on f i = stride-is pins d y left f ∙ (sym (stride-law left pins d (ranges-of d (y .good)) within-room) ∙ i)
+-- a quiet run to the end
+pub within-room : (pins left : ℕ) (d : Device) (y : Ready pins d) {n : ℕ} → n ≡ roomAt pins d → left ≤ n → left ≤ room pins d
+within-room pins left d y e h = subst (λ (m : ℕ). left ≤ m) (room-is pins d y e) h
 
 -- a round of the cycles that are left
 module _ (pins left : ℕ) (d : Device) {r : Round} (c : Crossed pins left d r) (some : 1 ≤ left) where

@@ -36,7 +36,7 @@ pub fn one_round(d: Device, pins: u8, left: u64, room: u64) -> Round
 }
 
 // n cycles with one pin byte, round by round. Where Timer 1's reload is all that happens from here on, the rounds go by its
-// few fields alone; a quiet run to the end, as in power-down, is the last round.
+// few fields alone.
 pub fn advance(d: Device, pins: u8, n: u64) -> Device
     requires { ⌜ Ready pins d × (n ≤ longest) ⌝ }
     ensures { λ r. ⌜ r ≡ cycles n pins d ⌝ }
@@ -47,9 +47,6 @@ pub fn advance(d: Device, pins: u8, n: u64) -> Device
         let ahead = quiet::ahead(at, pins);
         if reload::idles(at, pins, ahead.settled) {
             return reload::idle(at, pins, left);
-        }
-        if left <= ahead.room {
-            return quiet_stride::stride(at, pins, left);
         }
         let r = one_round(at, pins, left, ahead.room);
         at = r.device;

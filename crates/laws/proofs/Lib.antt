@@ -4,3 +4,5 @@ pub mod Counting
 pub mod Guards
 pub mod Flags
 pub mod Sleep
+pub mod Arrays
+pub mod LastRise

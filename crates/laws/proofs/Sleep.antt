@@ -93,7 +93,7 @@ module _ (d : Device) (down : poweredDown (d .pcon) ≡ true) where
 module _ (d : Device) where
   -- a cycle asks for SMOD and PD, which IDL is not
   steps-go-on : (l : ℕ) → steps (idling d) l ≡ idling (steps d l)
-  unfolding steps idling counted ticksIn serialTicks
+  unfolding steps idling counted ticksIn serialTicks flags
   steps-go-on l = rw (bit-set-other SMOD IDL (d .pcon) (omega arith))
 
   down-goes-on : poweredDown (idling d .pcon) ≡ poweredDown (d .pcon)

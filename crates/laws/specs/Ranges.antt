@@ -1,5 +1,5 @@
--- Document 01, "The device record": the ranges of an accepted record, field by field and laid out as the record is.
--- Of r : Ranges d the range of d .timers .tcon is r .timers .tcon. This is the one place that states them; every law of a crate
+-- Document 01, "The device record", with request Six's flag times: the ranges of an accepted record, field by field and laid out as the
+-- record is. Of r : Ranges d the range of d .timers .tcon is r .timers .tcon. This is the one place that states them; every law of a crate
 -- above `machine` about a device within its ranges takes one of these records.
 use Prim.Native.Nat.{ℕ, _<_, _≤_, _^_}
 use mathlib.Core.Path.{_≡_}
@@ -15,6 +15,7 @@ use Rattle.machine.specs.declared.Interrupts.{Interrupts}
 use Rattle.machine.specs.declared.Device.{Device}
 use Rattle.machine.specs.Registers.{PCON, IE, IP, implemented, within}
 use Rattle.machine.specs.Record.{lastPosition, levelsOk}
+use Rattle.machine.specs.Times.{timesOk}
 use Rattle.machine.specs.Rollovers.{mostTicks}
 
 -- Timers 0 and 1
@@ -96,3 +97,4 @@ pub record Ranges (d : Device) : Type 0 where
   pub interrupts : InterruptsOk (d .kind) (d .interrupts)
   pub levels : levelsOk (d .levels) ≡ true
   pub cycle : d .cycle < 2 ^ 64
+  pub times : timesOk (d .times) ≡ true

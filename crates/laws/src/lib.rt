@@ -21,6 +21,13 @@ pub fn picked16(b: bool, x: u16, y: u16) -> u16
     if b { x } else { y }
 }
 
+// One of two numbers of 64 bits.
+pub fn picked64(b: bool, x: u64, y: u64) -> u64
+    ensures { λ r. ⌜ r ≡ cond b x y ⌝ }
+{
+    if b { x } else { y }
+}
+
 // The smaller of two numbers of cycles.
 pub fn least(a: u64, b: u64) -> u64
     ensures { λ r. ⌜ r ≡ min a b ⌝ }

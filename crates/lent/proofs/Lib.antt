@@ -1,3 +1,4 @@
 pub mod Locals
 pub mod Lent
 pub mod Refused
+pub mod Structs

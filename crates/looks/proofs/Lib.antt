@@ -1,4 +1,3 @@
-pub mod Flags
 pub mod Looks
 pub mod Rounds
 pub mod Taken

@@ -2,23 +2,10 @@
 // the pin byte as the kind takes it.
 ghost use mathlib.Core.Path.{_≡_};
 ghost use Prim.Native.Nat.{_≤_};
-ghost use Rattle.machine.specs.Calls.{longest, rises, firstRise, firstOffer};
+ghost use Rattle.machine.specs.Calls.{longest, firstRise, firstOffer};
 ghost use Rattle.jump.specs.Rounds.{Ready};
 use machine::Device;
 use machine::LookAnswer;
-use machine::places::SCON_FLAGS;
-use machine::places::T2CON_FLAGS;
-use machine::places::TCON_FLAGS;
-
-// A flag that is 0 before and 1 after: TF1, TF0, IE1, IE0 in TCON, TI, RI in SCON, TF2, EXF2 in T2CON.
-fn rose(before: Device, after: Device) -> bool
-    ensures { λ r. ⌜ r ≡ rises before after ⌝ }
-{
-    let tcon = (!before.timers.tcon & after.timers.tcon) & TCON_FLAGS;
-    let scon = (!before.serial.scon & after.serial.scon) & SCON_FLAGS;
-    let t2con = (!before.timer2.t2con & after.timer2.t2con) & T2CON_FLAGS;
-    (!(tcon == 0) | !(scon == 0)) | !(t2con == 0)
-}
 
 // The first of n cycles in which a flag rises, or none, by the same rounds. Where Timer 1's reload is all that happens, and
 // in a quiet run to the end, none rises.
@@ -40,7 +27,14 @@ pub fn first_rise(d: Device, pins: u8, n: u64) -> LookAnswer
         let r = jump::one_round(at, pins, left, ahead.room);
         let e = r.device;
         done += r.used;
-        if rose(at, e) {
+        if flags::any_rises(
+            at.timers.tcon,
+            at.serial.scon,
+            at.timer2.t2con,
+            e.timers.tcon,
+            e.serial.scon,
+            e.timer2.t2con,
+        ) {
             return LookAnswer::At(done);
         }
         at = e;

@@ -1,5 +1,5 @@
--- An accepted record, test by test: each register within its implemented bits and a byte, each hidden field within its range. By
--- induction on the lists of them.
+-- An accepted record, test by test: each register within its implemented bits and a byte, each hidden field within its range, the saved
+-- levels and the flag times. By induction on the lists of them.
 use mathlib.Core.Path.{_≡_, refl, subst}
 use mathlib.Core.Bool.{Bool, true, cond, _&&_}
 use mathlib.Core.List.{List, [], _∷_}
@@ -10,6 +10,7 @@ use lib.Bits.{bitAnd, and-zero-l, and-le-r}
 use borrow.Author.Tests.{ltb-true, leb-true, le-leb, eqb-true, eq-eqb}
 use Rattle.machine.specs.declared.Device.{Device}
 use Rattle.machine.specs.Registers.{Row, table, implementedIn, implemented, within}
+use Rattle.machine.specs.Times.{timesOk}
 use Rattle.machine.specs.Record.{Register, registers, registersOk, Hidden, hiddenFields, hiddenOk, levelsOk, kindOk, accepted}
 use Rattle.machine.specs.Calls.{valueIn}
 use Rattle.machine.proofs.Choices.{chosen, cond-has, and-left, and-right, and-two}
@@ -73,11 +74,11 @@ module _ (d : Device) (ok : accepted d ≡ true) where
   unfolding accepted
   kind-ok = and-left (kindOk (d .kind)) _ ok
 
-  rest : (registersOk (d .kind) (registers d) && (hiddenOk (hiddenFields d) && levelsOk (d .levels))) ≡ true
+  rest : (registersOk (d .kind) (registers d) && (hiddenOk (hiddenFields d) && (levelsOk (d .levels) && timesOk (d .times)))) ≡ true
   unfolding accepted
   rest = and-right (kindOk (d .kind)) _ ok
 
-  others : (hiddenOk (hiddenFields d) && levelsOk (d .levels)) ≡ true
+  others : (hiddenOk (hiddenFields d) && (levelsOk (d .levels) && timesOk (d .times))) ≡ true
   others = and-right (registersOk (d .kind) (registers d)) _ rest
 
   -- the register at an address: within its implemented bits, and a byte
@@ -87,9 +88,15 @@ module _ (d : Device) (ok : accepted d ≡ true) where
   pub byte : (a : ℕ) → valueIn (registers d) a < 256
   byte a = within-byte (d .kind) a (valueIn (registers d) a) (bits a)
 
-  -- the hidden fields, and the saved levels
+  lists : (levelsOk (d .levels) && timesOk (d .times)) ≡ true
+  lists = and-right (hiddenOk (hiddenFields d)) _ others
+
+  -- the hidden fields, the saved levels, and the flag times
   pub hidden-most : Each Most (hiddenFields d)
   hidden-most = hidden-each (hiddenFields d) (and-left (hiddenOk (hiddenFields d)) _ others)
 
   pub levels-ok : levelsOk (d .levels) ≡ true
-  levels-ok = and-right (hiddenOk (hiddenFields d)) _ others
+  levels-ok = and-left (levelsOk (d .levels)) _ lists
+
+  pub times-ok : timesOk (d .times) ≡ true
+  times-ok = and-right (levelsOk (d .levels)) _ lists

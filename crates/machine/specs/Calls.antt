@@ -106,6 +106,7 @@ stored d a v =
           };
       levels = d .levels;
       cycle = d .cycle;
+      times = d .times;
     }
 
 -- a write stores the implemented bits
@@ -259,6 +260,7 @@ withInterrupts pcon t i d =
       interrupts = i;
       levels = d .levels;
       cycle = d .cycle;
+      times = d .times;
     }
 
 abbrev pub refuseTake : ℕ → Device → TakeAnswer

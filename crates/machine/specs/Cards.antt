@@ -1,10 +1,11 @@
 -- Document 01, "Bench cards": the cards marked P, and the last card's rule on TF1; then the cards of document 02's requests. They are
--- one table with one proof. Each row is a list of calls from reset, run through the plain machine. From reset, pins high.
-use Prim.Native.Nat.{ℕ}
+-- one table with one proof. Each row is a list of calls, run through the plain machine: from reset, pins high, unless said.
+use Prim.Native.Nat.{ℕ, zero, suc, _+_, _-_, _*_, _^_}
 use mathlib.Core.Path.{_≡_, refl}
 use mathlib.Core.Bool.{Bool, true, cond, _&&_}
 use mathlib.Core.List.{List, [], _∷_, _++_, map}
 use lib.Dec.{eqb}
+use Rattle.machine.specs.declared.FlagTimes.{FlagTimes}
 use Rattle.machine.specs.declared.Device.{Device}
 use Rattle.machine.specs.Registers.{PCON, TCON, TMOD, TL0, TL1, TH0, TH1, SCON, SBUF, IE, IP, T2CON, RCAP2L, RCAP2H, TL2, TH2, table, implementedIn, implemented}
 use Rattle.machine.specs.Record.{registers, hiddenFields, accepted, pinsOf, levelsOf, zeros, resetOf}
@@ -13,19 +14,21 @@ use Rattle.machine.specs.Timers.{enabled, clocked, countIn, flagged, cou
 use Rattle.machine.specs.Timer2.{countOnce, countTimes, baudRate, countsOf2, heedsT2EX, captures, counted2, baudStep, copied2, captureStep, timer2Step}
 use Rattle.machine.specs.Serial.{halfAfter, ticks1, ticksOf, serialTicks, sendMove, sendTick, sendTicks, send, lineOf, startFound, receiveStart, receiveRolled, receiveCounted, votesAdded, bitOf, frameDone, receiveBit, receiveWork, receiveTick, receiveTicks, receiveShift, receive, serialStep, writeSbuf, receiveAsked, writeScon}
 use Rattle.machine.specs.Interrupts.{external, either, seenOf, firstOf, choice, offered, inService, taken, returned}
-use Rattle.machine.specs.Flags.{flags, anyRises}
+use Rattle.machine.specs.Flags.{flags, risen, anyRises}
+use Rattle.machine.specs.Times.{noted, timesAfter, pairsOk, never}
 use Rattle.machine.specs.Cycle.{falls, counted, externals, timersAfter, timer2After, ticksIn, steps as stepsOf, cycleOf, cycles}
 use Rattle.machine.specs.Calls.{resetAnswer, valueIn, registerAt, readAnswer, stored, writeAnswer, cycleAnswer, cyclesFault, jumpAnswer, entryFault, firstBad, traceFault, traceCycles, traceAnswer, firstCycle, lookAnswer, wakeAnswer, offerOf, offerAnswer, takeOf, takeAnswer, returnAnswer}
-use Rattle.machine.specs.Lists.{Call, Reply, Ran, nothing, number, says, play, run, machine}
+use Rattle.machine.specs.Lists.{Call, Reply, Ran, nothing, number, says, play, run}
 use Rattle.machine.specs.Lists.Call.{reset, read, write, cycle, jump, trace, look, offer, take, return, wake}
 use Rattle.machine.specs.Lists.Value.{none}
 use Rattle.machine.specs.Replies.{sameNumbers, sameValue, sameReply, sameReplies}
 
--- a row: the card's number, the kind, the calls, and what has to hold of the run. Cards 1 to 10 are numbered by their place in document
--- 01, 11 to 16 are those of request One, 17 to 21 of request Two, 22 and 23 of request Five
+-- a row: the card's number, the device that the calls start from, the calls, and what has to hold of the run. Cards 1 to 10 are numbered
+-- by their place in document 01, 11 to 16 are those of request One, 17 to 21 of request Two, 22 and 23 of request Five, 24 to 30 of request
+-- Six
 pub record Row : Type 0 where
   pub card : ℕ
-  pub kind : ℕ
+  pub start : Device
   pub calls : List Call
   pub test : Ran → Bool
 
@@ -56,6 +59,9 @@ lowRXD = 0x7e
 
 abbrev lowINT0 : ℕ
 lowINT0 = 0x7d
+
+abbrev lowINT1 : ℕ
+lowINT1 = 0x7b
 
 abbrev lowT2 : ℕ
 lowT2 = 0x5f
@@ -93,14 +99,18 @@ abbrev wakesNone : ℕ → Asked
 wakesNone n = asked (wake high n) (says 0 none)
 
 -- a row whose replies are all given, and whose device at the end passes a test
-rowWith : (Device → Bool) → ℕ → ℕ → List Asked → Row
-rowWith ends card kind steps =
+rowFrom : Device → (Device → Bool) → ℕ → List Asked → Row
+rowFrom start ends card steps =
     record {
       card = card;
-      kind = kind;
+      start = start;
       calls = map (λ (a : Asked). a .call) steps;
       test = λ r. sameReplies (r .replies) (map (λ (a : Asked). a .reply) steps) && ends (r .device);
     }
+
+-- from reset
+abbrev rowWith : (Device → Bool) → ℕ → ℕ → List Asked → Row
+rowWith ends card kind steps = rowFrom (resetAnswer kind .device) ends card steps
 
 abbrev rowOf : ℕ → ℕ → List Asked → Row
 rowOf = rowWith (λ d. true)
@@ -536,6 +546,121 @@ card23 kind =
     ∷ []
     )
 
+-- Flag times. A flag is told by its place in the order TF0, TF1, IE0, IE1, RI, TI, TF2, EXF2
+
+-- n numbers, each 0 but the one at a place
+placed : ℕ → ℕ → ℕ → List ℕ
+placed zero place v = []
+placed (suc n) zero v = v ∷ placed n n 0
+placed (suc n) (suc place) v = 0 ∷ placed n place v
+
+-- one flag last rose in the cycle that left this number, and no other ever did
+rose : ℕ → ℕ → Device → Bool
+rose place n d = sameNumbers (d .times .ever) (placed 8 place 1) && sameNumbers (d .times .number) (placed 8 place n)
+
+-- none ever did
+neverRose : Device → Bool
+neverRose d = sameNumbers (d .times .ever) (placed 8 8 0) && sameNumbers (d .times .number) (placed 8 8 0)
+
+-- Timer 0 mode 1 at FFFE, running
+timer0Near : List Asked
+timer0Near = set TMOD 0x01 ∷ set TH0 0xff ∷ set TL0 0xfe ∷ set TCON 0x10 ∷ []
+
+-- the same: TF0 rises by the overflow in cycle 2, and its number is 2; it stays 2
+card24 : ℕ → ℕ → Row
+card24 n kind = rowWith (rose 0 2) 24 kind (timer0Near ++ go n ∷ [])
+
+-- a flag that software writes never counts, nor does one that is 1 by software when the overflow sets it again
+card25 : List Asked → ℕ → Row
+card25 writes kind = rowWith neverRose 25 kind (writes ++ go 9 ∷ [])
+
+-- TF0 rises in cycle 2; cleared, with the timer at FFFE again, it rises in cycle 4, and its number is the later one
+card26 : ℕ → Row
+card26 kind = rowWith (rose 0 4) 26 kind (timer0Near ++ go 2 ∷ set TCON 0x10 ∷ set TH0 0xff ∷ set TL0 0xfe ∷ go 9 ∷ [])
+
+-- Timer 0 mode 2, reload FF: it overflows in cycle 2 and in every one after it, and TF0, which stays 1, has risen in cycle 2 alone
+card26again : ℕ → Row
+card26again kind = rowWith (rose 0 2) 26 kind (set TMOD 0x02 ∷ set TH0 0xff ∷ set TL0 0xfe ∷ set TCON 0x10 ∷ go 9 ∷ [])
+
+-- each flag: n cycles with a pin byte leave the same pair as single cycles, as a jump, as two jumps and as a trace run
+singles : ℕ → ℕ → List Asked
+singles pins zero = []
+singles pins (suc n) = step pins ∷ singles pins n
+
+ways : ℕ → ℕ → List (List Asked)
+ways pins n =
+    singles pins n
+    ∷ (asked (jump pins n) passes ∷ [])
+    ∷ (asked (jump pins 1) passes ∷ asked (jump pins (n - 1)) passes ∷ [])
+    ∷ (asked (trace ((pins * 0x1000000 + n) ∷ [])) passes ∷ [])
+    ∷ []
+
+card27 : ℕ → ℕ → List Asked → ℕ → ℕ → ℕ → List Row
+card27 place last writes pins n kind =
+    map (λ (way : List Asked). rowWith (rose place last) 27 kind (writes ++ way)) (ways pins n)
+
+-- the device with another cycle number and other flag times
+timed : ℕ → FlagTimes → Device → Device
+timed n times d =
+    record {
+      kind = d .kind;
+      pcon = d .pcon;
+      timers = d .timers;
+      timer2 = d .timer2;
+      serial = d .serial;
+      interrupts = d .interrupts;
+      levels = d .levels;
+      cycle = n;
+      times = times;
+    }
+
+-- card 24 from the cycle number 2^64 - 2: the number wraps with the cycle number, and the flag rose all the same
+card28 : ℕ → Row
+card28 kind = rowFrom (timed (2 ^ 64 - 2) never (resetOf kind)) (rose 0 0) 28 (timer0Near ++ go 2 ∷ [])
+
+-- what is no cycle keeps the pairs: reads, looks, offers, a take and a return, every refused call, and power-down
+card29 : ℕ → Row
+card29 kind =
+    rowWith (rose 0 2) 29 kind (
+    timer0Near
+    ++ set IE 0x82
+    ∷ go 2
+    ∷ holds TCON 0x30
+    ∷ asked (look high 9) (says 0 none)
+    ∷ wakes 9 1
+    ∷ asked (write 0x80 0x00) (says 3 nothing)
+    ∷ asked (cycle 0x80) (says 4 (number 0))
+    ∷ asked (jump high 0x10000000001) (says 5 nothing)
+    ∷ asked take (says 6 (number 0))
+    ∷ asked return (says 7 nothing)
+    ∷ asked (trace (0x7f000000 ∷ [])) (says 8 nothing)
+    ∷ go 1
+    ∷ offers 0x0b
+    ∷ asked take (gives 0x0b)
+    ∷ asked return passes
+    ∷ set PCON 0x02
+    ∷ go 9
+    ∷ asked (write TCON 0x00) (says 10 nothing)
+    ∷ []
+    )
+
+-- reset clears them
+card29reset : ℕ → Row
+card29reset kind = rowWith neverRose 29 kind (timer0Near ++ go 2 ∷ asked (reset kind) passes ∷ [])
+
+-- a record with one pair set: never with a number and an ever above 1 are refused by 1 and stay as they are, ever with any number is
+-- accepted; at any place
+card30 : ℕ → ℕ → ℕ → List Asked → ℕ → Row
+card30 place ever last steps kind =
+    let times : FlagTimes = record { ever = placed 8 place ever; number = placed 8 place last } in
+    rowFrom (timed 0 times (resetOf kind)) (λ d. sameNumbers (d .times .ever) (times .ever) && sameNumbers (d .times .number) (times .number)) 30 steps
+
+bad : ℕ → ℕ → ℕ → ℕ → Row
+bad place ever last = card30 place ever last (asked (cycle high) (says 1 (number 0)) ∷ [])
+
+good : ℕ → ℕ → ℕ → Row
+good place last = card30 place 1 last (step high ∷ [])
+
 -- on both kinds
 both : (ℕ → Row) → List Row
 both card = card 51 ∷ card 52 ∷ []
@@ -602,15 +727,39 @@ cards =
     ∷ [])
     ∷ both card22
     ∷ both card23
+    ∷ both (card24 2)
+    ∷ both (card24 9)
+    ∷ both (card25 (set TCON 0xaa ∷ set SCON 0x03 ∷ []))
+    ∷ both (card25 (timer0Near ++ set TCON 0x30 ∷ []))
+    ∷ (card25 (set T2CON 0xc0 ∷ []) 52 ∷ [])
+    ∷ both card26
+    ∷ both card26again
+    ∷ card27 0 2 timer0Near high 4 51
+    ∷ card27 1 2 (set TMOD 0x10 ∷ set TH1 0xff ∷ set TL1 0xfe ∷ set TCON 0x40 ∷ []) high 4 51
+    ∷ card27 2 1 (set TCON 0x01 ∷ []) lowINT0 3 51
+    ∷ card27 3 1 (set TCON 0x04 ∷ []) lowINT1 3 51
+    ∷ card27 4 10 (set SCON 0x10 ∷ []) high 12 51
+    ∷ card27 5 10 (set SBUF 0xff ∷ []) high 12 51
+    ∷ card27 6 2 (set TH2 0xff ∷ set TL2 0xfe ∷ set T2CON 0x04 ∷ []) high 4 52
+    ∷ card27 7 1 (set T2CON 0x0c ∷ []) lowT2EX 3 52
+    ∷ both card28
+    ∷ both card29
+    ∷ both card29reset
+    ∷ both (bad 0 0 1)
+    ∷ both (bad 7 0 0xffffffffffffffff)
+    ∷ both (bad 3 2 0)
+    ∷ both (bad 7 255 1)
+    ∷ both (good 0 0)
+    ∷ both (good 7 0xffffffffffffffff)
     ∷ []
     )
 
 -- the cards of the rows that fail
 failing : List Row → List ℕ
 failing [] = []
-failing (r ∷ rs) = cond (r .test (machine (r .kind) (r .calls))) (failing rs) (r .card ∷ failing rs)
+failing (r ∷ rs) = cond (r .test (run (r .calls) (r .start))) (failing rs) (r .card ∷ failing rs)
 
 -- no row fails
 cards-hold : failing cards ≡ []
-unfolding sameNumbers sameValue sameReply sameReplies rowWith card1 card2 card3 card4 baud2 card5 card5counted mode1send card6 card6half card7 card8 card8shift card9 card10 card11 card12 card12line card13 card14 card15 card16 timer2At card17 card17by card17counter card18 card18both card19 card20 card20counter card21 card21again card22 card23 both joined cards failing table implementedIn implemented registers hiddenFields accepted pinsOf levelsOf zeros resetOf count13 count16 reload8 count8 hold enabled clocked countIn flagged counts0 counts1 countsHigh0 pair0 high0 highOverflow0 pair1 timerFlags timersStep countOnce countTimes baudRate countsOf2 heedsT2EX captures counted2 baudStep copied2 captureStep timer2Step halfAfter ticks1 ticksOf serialTicks sendMove sendTick sendTicks send lineOf startFound receiveStart receiveRolled receiveCounted votesAdded bitOf frameDone receiveBit receiveWork receiveTick receiveTicks receiveShift receive serialStep writeSbuf receiveAsked writeScon external either seenOf firstOf choice offered inService taken returned falls counted externals timersAfter timer2After ticksIn stepsOf cycleOf cycles resetAnswer valueIn registerAt readAnswer stored writeAnswer cycleAnswer cyclesFault jumpAnswer entryFault firstBad traceFault traceCycles traceAnswer flags anyRises firstCycle lookAnswer wakeAnswer offerOf offerAnswer takeOf takeAnswer returnAnswer play run machine
+unfolding sameNumbers sameValue sameReply sameReplies rowFrom card1 card2 card3 card4 baud2 card5 card5counted mode1send card6 card6half card7 card8 card8shift card9 card10 card11 card12 card12line card13 card14 card15 card16 timer2At card17 card17by card17counter card18 card18both card19 card20 card20counter card21 card21again card22 card23 placed rose neverRose timer0Near card24 card25 card26 card26again singles ways card27 timed card28 card29 card29reset card30 bad good both joined cards failing table implementedIn implemented registers hiddenFields accepted pinsOf levelsOf zeros resetOf count13 count16 reload8 count8 hold enabled clocked countIn flagged counts0 counts1 countsHigh0 pair0 high0 highOverflow0 pair1 timerFlags timersStep countOnce countTimes baudRate countsOf2 heedsT2EX captures counted2 baudStep copied2 captureStep timer2Step halfAfter ticks1 ticksOf serialTicks sendMove sendTick sendTicks send lineOf startFound receiveStart receiveRolled receiveCounted votesAdded bitOf frameDone receiveBit receiveWork receiveTick receiveTicks receiveShift receive serialStep writeSbuf receiveAsked writeScon external either seenOf firstOf choice offered inService taken returned falls counted externals timersAfter timer2After ticksIn stepsOf cycleOf cycles resetAnswer valueIn registerAt readAnswer stored writeAnswer cycleAnswer cyclesFault jumpAnswer entryFault firstBad traceFault traceCycles traceAnswer flags anyRises risen noted timesAfter pairsOk never firstCycle lookAnswer wakeAnswer offerOf offerAnswer takeOf takeAnswer returnAnswer play run
 cards-hold = refl

@@ -1,5 +1,6 @@
 -- Document 01, "One cycle, in this order": steps 1 to 8. P is the saved level of a pin, L its level now. Document 02, request One: in
--- power-down a cycle alters nothing; request Two: Timer 2's overflow is heard in its own cycle.
+-- power-down a cycle alters nothing; request Two: Timer 2's overflow is heard in its own cycle; request Six: a cycle keeps the times of
+-- the flags that rise in it.
 use Prim.Native.Nat.{ℕ, zero, suc, _+_, _%_, _^_}
 use mathlib.Core.Bool.{cond, _&&_}
 use mathlib.Core.List.{List}
@@ -20,6 +21,8 @@ use Rattle.machine.specs.Timers.{flagged, timersStep}
 use Rattle.machine.specs.Timer2.{timer2Step}
 use Rattle.machine.specs.Serial.{serialTicks, serialStep}
 use Rattle.machine.specs.Interrupts.{external, seenOf}
+use Rattle.machine.specs.Flags.{flagsOf, flags, risen}
+use Rattle.machine.specs.Times.{timesAfter}
 
 -- a pin falls when P = 1 and L = 0: 1 or 0
 unfoldable pub falls : List ℕ → ℕ → ℕ → ℕ
@@ -83,13 +86,15 @@ unfoldable pub ticksIn : Device → Counted → Ticks
 ticksIn d c = serialTicks (d .pcon) (d .timer2 .t2con) (d .serial) (c .timers .overflow1) (c .timer2 .overflows)
 
 -- steps 1 to 8, the pin byte as the kind takes it: c is steps 2 and 3, s steps 4 and 5, t and u steps 6 and 7; steps 1 and 8 are
--- polling, and step 8 saves the levels and counts the cycle
+-- polling, and step 8 saves the levels and counts the cycle. Then, of a flag that is 0 before the cycle and 1 after it, the number that
+-- the count leaves is kept
 unfoldable pub steps : Device → ℕ → Device
 steps d pins =
     let c = counted d pins in
     let s = serialStep (ticksIn d c) (bit RXD pins) (d .serial) in
     let t = timersAfter (d .levels) pins (c .timers .timers) in
     let u = timer2After (d .levels) pins (c .timer2 .timer2) in
+    let number = (d .cycle + 1) % 2 ^ 64 in
     record {
       kind = d .kind;
       pcon = d .pcon;
@@ -98,7 +103,8 @@ steps d pins =
       serial = s;
       interrupts = polling (c .timer2 .tf2) (seenOf (t .tcon) (s .scon) (u .t2con)) (d .interrupts);
       levels = levelsOf pins;
-      cycle = (d .cycle + 1) % 2 ^ 64;
+      cycle = number;
+      times = timesAfter number (risen (flags d) (flagsOf (t .tcon) (s .scon) (u .t2con))) (d .times);
     }
 
 -- one cycle; in power-down it alters nothing, not even the cycle number

@@ -1,13 +1,14 @@
 pub mod Bits
 pub mod Registers
 pub mod Power
+pub mod Flags
+pub mod Times
 pub mod Record
 pub mod Counting
 pub mod Timers
 pub mod Timer2
 pub mod Serial
 pub mod Interrupts
-pub mod Flags
 pub mod Cycle
 pub mod Rollovers
 pub mod Calls

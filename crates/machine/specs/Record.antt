@@ -1,10 +1,12 @@
--- Document 01, "The device record": the fields in their order, their ranges, the pin byte, and reset.
+-- Document 01, "The device record": the fields in their order, their ranges, the pin byte, and reset. Document 02, request Six: the
+-- flag times join it.
 use Prim.Native.Nat.{ℕ, _-_, _^_}
 use mathlib.Core.Bool.{Bool, true, cond, _&&_, _||_}
 use mathlib.Core.List.{List, [], _∷_}
 use lib.Dec.{eqb, leb, ltb}
 use Rattle.machine.specs.declared.Device.{Device}
 use Rattle.machine.specs.Bits.{bit, field, setBit}
+use Rattle.machine.specs.Times.{timesOk, never}
 use Rattle.machine.specs.Registers.{PCON, TCON, TMOD, TL0, TL1, TH0, TH1, SCON, SBUF, IE, IP, T2CON, RCAP2L, RCAP2H, TL2, TH2, SM01, T2, T2EX, implemented, within}
 
 -- a register: its address and its value
@@ -100,7 +102,9 @@ kindOk kind = eqb kind 51 || eqb kind 52
 
 -- a record that refusal 1 does not meet
 unfoldable pub accepted : Device → Bool
-accepted d = kindOk (d .kind) && (registersOk (d .kind) (registers d) && (hiddenOk (hiddenFields d) && levelsOk (d .levels)))
+accepted d =
+    kindOk (d .kind)
+    && (registersOk (d .kind) (registers d) && (hiddenOk (hiddenFields d) && (levelsOk (d .levels) && timesOk (d .times))))
 
 -- bit 7 of a pin byte is 0
 abbrev pub pinsOk : ℕ → Bool
@@ -133,6 +137,7 @@ blank kind sample level =
       interrupts = record { ie = 0; ip = 0; seen = 0; polled = 0; low = 0; high = 0 };
       levels = level ∷ level ∷ level ∷ level ∷ level ∷ level ∷ level ∷ [];
       cycle = 0;
+      times = never;
     }
 
 -- the record that a refused reset leaves: all zero, kind 0

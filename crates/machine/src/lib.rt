@@ -72,6 +72,14 @@ pub struct Interrupts {
     pub high: u8,
 }
 
+// When each of the eight flags last rose, in the order TF0, TF1, IE0, IE1, RI, TI, TF2, EXF2: 1 where it ever did since reset, and the
+// cycle number after the cycle in which it last did.
+#[repr(C)]
+pub struct FlagTimes {
+    pub ever: [u8; 8],
+    pub number: [u64; 8],
+}
+
 // The device record. The saved levels are those of RXD, INT0, INT1, T0, T1, T2, T2EX.
 #[repr(C)]
 pub struct Device {
@@ -83,6 +91,7 @@ pub struct Device {
     pub interrupts: Interrupts,
     pub levels: [u8; 7],
     pub cycle: u64,
+    pub times: FlagTimes,
 }
 
 // A timer's register pair after a count, and 1 where it overflowed.

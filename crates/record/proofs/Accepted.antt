@@ -12,9 +12,10 @@ use borrow.Author.Tests.{eqb-true, eq-eqb}
 use Rattle.machine.specs.declared.Device.{Device}
 use Rattle.machine.specs.Registers.{PCON, TCON, TMOD, TL0, TL1, TH0, TH1, SCON, SBUF, IE, IP, T2CON, RCAP2L, RCAP2H, TL2, TH2, table, implementedIn, implemented, within}
 use Rattle.machine.specs.Record.{registers, hiddenFields, kindOk, accepted, blank, zeros, resetOf, dueMost}
+use Rattle.machine.specs.Times.{pairsOk, never}
 use Rattle.machine.specs.Calls.{valueIn}
 use Rattle.machine.proofs.Choices.{cond-has, by-test}
-use Rattle.machine.proofs.Accepted.{Each, Most, kind-ok, bits, byte, hidden-every, hidden-most, levels-ok}
+use Rattle.machine.proofs.Accepted.{Each, Most, kind-ok, bits, byte, hidden-every, hidden-most, levels-ok, times-ok}
 use Rattle.machine.proofs.Accepted.Each.{done, _&_}
 use Rattle.laws.specs.Ranges.{Ranges, Absent}
 use Rattle.laws.proofs.Bits.{lt-within}
@@ -144,6 +145,7 @@ module _ (d : Device) (ok : accepted d ≡ true) where
             };
         levels = levels-ok d ok;
         cycle = omega (arith, cycle);
+        times = times-ok d ok;
       }
 
   -- an accepted record has each field in its range
@@ -200,16 +202,17 @@ accepted-of d r =
           & i .high
           & omega (arith, r .cycle)
           & done),
+      r .levels,
     )
-    (r .levels)
+    (r .times)
 
 -- reset gives an accepted record of each kind, and every call refuses the record that a refused reset leaves
 pub reset-accepted51 : accepted (resetOf 51) ≡ true
-unfolding accepted registers hiddenFields implemented implementedIn table resetOf blank
+unfolding accepted registers hiddenFields implemented implementedIn table resetOf blank pairsOk never
 reset-accepted51 = refl
 
 pub reset-accepted52 : accepted (resetOf 52) ≡ true
-unfolding accepted registers hiddenFields implemented implementedIn table resetOf blank
+unfolding accepted registers hiddenFields implemented implementedIn table resetOf blank pairsOk never
 reset-accepted52 = refl
 
 pub zeros-refused : accepted zeros ≡ false

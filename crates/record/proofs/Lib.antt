@@ -1,3 +1,4 @@
 pub mod Tests
 pub mod Accepted
 pub mod Written
+pub mod Pairs

@@ -112,6 +112,7 @@ module _ (d : Device) (a v : ℕ) (h : v < 256) (r : Ranges d) where
             };
         levels = r .levels;
         cycle = r .cycle;
+        times = r .times;
       }
 
 -- at an address that the kind lacks nothing is stored, or 0 where 0 stood: so this holds at every address

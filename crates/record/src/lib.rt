@@ -1,9 +1,13 @@
 // The record check and reset: whether each field is within its range or mask, and the records that reset leaves.
 ghost use mathlib.Core.Path.{_≡_};
+ghost use mathlib.Core.Bool.{cond};
+ghost use lib.Dec.{eqb};
 ghost use Rattle.machine.specs.Registers as Table;
+ghost use Rattle.machine.specs.Times as Times;
 ghost use Rattle.machine.specs.Record as Record;
 ghost use Rattle.registers.specs.Places.{addressOf};
 use machine::Device;
+use machine::FlagTimes;
 use machine::Interrupts;
 use machine::Receiver;
 use machine::Sender;
@@ -72,12 +76,41 @@ fn levels_ok(l: [u8; 7]) -> bool
     (l[0] <= 1) & (l[1] <= 1) & (l[2] <= 1) & (l[3] <= 1) & (l[4] <= 1) & (l[5] <= 1) & (l[6] <= 1)
 }
 
-// The record check: kind 51 or 52, and each field within its range or mask.
+// What a flag's pair holds beside a never.
+fn held(ever: u8, number: u64) -> u64
+    ensures { λ r. ⌜ r ≡ cond (eqb ever 0) number 0 ⌝ }
+{
+    laws::picked64(ever == 0, number, 0)
+}
+
+// Each of the eight pairs says ever with any number, or never with 0: no ever is above 1, and beside no never stands a number.
+fn pairs_ok(e: [u8; 8], n: [u64; 8]) -> bool
+    ensures { λ r. ⌜ r ≡ Times.pairsOk e n ⌝ }
+{
+    let ever = e[0] | e[1] | e[2] | e[3] | e[4] | e[5] | e[6] | e[7];
+    let number = held(e[0], n[0])
+        | held(e[1], n[1])
+        | held(e[2], n[2])
+        | held(e[3], n[3])
+        | held(e[4], n[4])
+        | held(e[5], n[5])
+        | held(e[6], n[6])
+        | held(e[7], n[7]);
+    (ever <= 1) & (number == 0)
+}
+
+// The record check: kind 51 or 52, each field within its range or mask, and the flag times.
 pub fn accepts(d: Device) -> bool
     ensures { λ r. ⌜ r ≡ Record.accepted d ⌝ }
 {
     let l = d.levels;
-    ((d.kind == 51) | (d.kind == 52)) & registers_ok(d) & hidden_ok(d) & levels_ok(l)
+    let e = d.times.ever;
+    let n = d.times.number;
+    ((d.kind == 51) | (d.kind == 52))
+        & registers_ok(d)
+        & hidden_ok(d)
+        & levels_ok(l)
+        & pairs_ok(e, n)
 }
 
 // All zero but for the kind, the last line sample and the saved levels.
@@ -132,6 +165,10 @@ fn blank(kind: u8, sample: u8, level: u8) -> Device
         },
         levels: [level, level, level, level, level, level, level],
         cycle: 0,
+        times: FlagTimes {
+            ever: [0, 0, 0, 0, 0, 0, 0, 0],
+            number: [0, 0, 0, 0, 0, 0, 0, 0],
+        },
     }
 }
 

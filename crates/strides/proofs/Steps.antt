@@ -1,5 +1,5 @@
 -- A cycle of a settled device, from what steps 2 to 5 leave of its parts: where they leave TCON, SCON, T2CON and the due
--- marks as they were and no overflow sets TF2, the other steps change nothing but the cycle number.
+-- marks as they were and no overflow sets TF2, the other steps change nothing but the cycle number, and no flag rises.
 use Prim.Native.Nat.{ℕ, _+_, _%_, _^_}
 use mathlib.Core.Path.{_≡_, refl, sym, ap, _∙_}
 use mathlib.Core.List.{List}
@@ -14,8 +14,11 @@ use Rattle.machine.specs.Record.{levelsOf}
 use Rattle.machine.specs.Timers.{flagged}
 use Rattle.machine.specs.Serial.{serialStep}
 use Rattle.machine.specs.Interrupts.{seenOf}
+use Rattle.machine.specs.Flags.{flagsOf, flags, risen, anyRises}
+use Rattle.machine.specs.Times.{timesAfter}
 use Rattle.machine.specs.Cycle.{falls, polling, externals, timersAfter, timer2After, counted, ticksIn, steps}
 use Rattle.laws.proofs.Bits.{flagged-none}
+use Rattle.laws.proofs.Flags.{none-rises, times-stay}
 use Rattle.strides.specs.Stride.{withParts}
 use Rattle.strides.proofs.Settles.{Rest, no-fall, externals-rest}
 
@@ -48,8 +51,8 @@ module _ (l : ℕ) (d : Device) (r : Rest l d) where
 
   pub steps-rest : (c : Counted) (s : Serial) → counted d l ≡ c → serialStep (ticksIn d c) (bit RXD l) (d .serial) ≡ s → Kept d c s
       → steps d l ≡ withParts ((d .cycle + 1) % 2 ^ 64) (c .timers .timers) (c .timer2 .timer2) s d
-  unfolding steps timer2After levelsOf
-  steps-rest c s p e k = rw (p, timers, timer2, e, still, ← r .levels)
+  unfolding steps timer2After levelsOf flags anyRises
+  steps-rest c s p e k = rw (p, timers, timer2, e, still, times, ← r .levels)
     where
       timers : timersAfter (d .levels) l (c .timers .timers) ≡ c .timers .timers
       timers =
@@ -77,3 +80,8 @@ module _ (l : ℕ) (d : Device) (r : Rest l d) where
             low = d .interrupts .low;
             high = d .interrupts .high;
           }
+
+      -- no flag rises, so the flag times stay
+      times : timesAfter ((d .cycle + 1) % 2 ^ 64) (risen (flags d) (flagsOf (c .timers .timers .tcon) (s .scon) (c .timer2 .timer2 .t2con))) (d .times)
+          ≡ d .times
+      times = times-stay _ _ (d .times) (ap (anyRises (flags d)) (λ i. flagsOf (k .tcon i) (k .scon i) (k .t2con i)) ∙ none-rises (flags d))

@@ -186,6 +186,7 @@ withParts n t u s d =
       interrupts = d .interrupts;
       levels = d .levels;
       cycle = n;
+      times = d .times;
     }
 
 -- running timers, the serial port in mode 2 and the cycle number move, and nothing else

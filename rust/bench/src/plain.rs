@@ -1,6 +1,6 @@
 //! The model by other hands as a station's chips. It steps cycle by cycle; what a wake look has stepped, the jump after it takes over, so
 //! that every cycle is stepped once.
-use c51::Device;
+use c51::{Device, Flag};
 use c51model::interval::Interval;
 use c51model::model;
 use compare::record::of_model;
@@ -73,6 +73,11 @@ impl Chips for Plain {
     fn return_from_interrupt(&mut self) {
         self.ahead.set(None);
         self.device.return_from_interrupt().expect(PASSES)
+    }
+
+    fn last_rise(&self, flag: Flag) -> Option<u64> {
+        let time = self.device.flag_times[flag as usize];
+        (time.ever == 1).then_some(time.number)
     }
 
     fn record(&self) -> Device {

@@ -1,12 +1,12 @@
 //! The tightest loop by hand over the rounds of the idle station, and over nothing else: Timer 1 in mode 2, serial mode 1 with SMOD 0,
 //! RXD high.
-use c51::{flag, Device};
+use c51::Device;
 use station::frame::TICKS;
 
 /// The count of TL1 that overflows next.
 const LAST_COUNT: u8 = 0xFF;
 
-/// What moves in an idle station.
+/// What moves in an idle station once TF1 is up.
 pub struct Idle {
     tl1: u8,
     th1: u8,
@@ -52,7 +52,6 @@ impl Idle {
     pub fn device(&self, before: &Device) -> Device {
         let mut device = *before;
         device.timers.tl1 = self.tl1;
-        device.timers.tcon |= flag::TF1;
         device.serial.half = self.half;
         device.serial.send.counter = self.send_counter;
         device.cycle = self.cycle;

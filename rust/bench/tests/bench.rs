@@ -1,7 +1,7 @@
 //! The benchmark measures what it says: the loop by hand and the plain chip do the library's work, and a missing program stops nothing.
 use bench::plain::Plain;
 use bench::tight::Idle;
-use c51::{flag, pcon, Board, MAX_CYCLES, PINS_HIGH};
+use c51::{flag, pcon, Board, Device, MAX_CYCLES, PINS_HIGH};
 use station::reader::Reader;
 use station::run::{run, Plan};
 use station::timing::Time;
@@ -31,6 +31,17 @@ fn looks_over_the_idle_station_find_nothing() {
     assert_eq!(device.wake_look(PINS_HIGH, MAX_CYCLES), Ok(None));
 }
 
+/// What the jumps at rest are timed on: each moves the cycle number alone, so that the next is of a device at rest too.
+#[test]
+fn a_device_at_rest_stays_at_rest() {
+    let given = Device::reset(52).unwrap();
+    let mut device = given;
+    for jumps in 1..=3 {
+        device.jump(PINS_HIGH, MAX_CYCLES).unwrap();
+        assert_eq!(device, Device { cycle: jumps * MAX_CYCLES, ..given });
+    }
+}
+
 /// Also at the stations that have an 82C53, whose times are the same.
 #[test]
 fn the_plain_chips_read_the_same_tags() {
@@ -38,6 +49,7 @@ fn the_plain_chips_read_the_same_tags() {
     let (rows, _) = run::<Board>(&plan, None, |_| ());
     assert_eq!(run::<Plain>(&plan, None, |_| ()).0, rows);
     assert_eq!(rows.iter().filter(|row| matches!(row.time, Some(Time::Took(_)))).count(), 4);
+    assert!(rows.iter().all(|row| row.last_digit.is_some_and(|cycle| cycle < row.cycle)), "{rows:?}");
 }
 
 #[test]

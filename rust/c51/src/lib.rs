@@ -27,7 +27,7 @@ mod speed;
 
 pub use raw::{AnswerRow, CallRow, ANSWER_WORDS, CALL_WORDS, NONE};
 pub use raw::{Board, Counter, Interval};
-pub use raw::{Device, Interrupts, Receiver, Sender, Serial, Timer2, Timers};
+pub use raw::{Device, FlagTimes, Interrupts, Receiver, Sender, Serial, Timer2, Timers};
 pub use speed::{speed, Speed, MAX_CRYSTAL, MAX_RATE, MAX_TOLERANCE};
 
 /// All pins at 1.
@@ -89,6 +89,25 @@ pub mod flag {
     pub const RI: u8 = 0x01;
     pub const TF2: u8 = 0x80;
     pub const EXF2: u8 = 0x40;
+}
+
+/// A flag; the number is its place in [`FlagTimes`]. TF2 and EXF2 rise on kind 52 alone.
+#[derive(Clone, Copy, PartialEq, Eq, Hash, Debug)]
+#[repr(u8)]
+pub enum Flag {
+    Tf0,
+    Tf1,
+    Ie0,
+    Ie1,
+    Ri,
+    Ti,
+    Tf2,
+    Exf2,
+}
+
+impl Flag {
+    /// Every flag, in the order of the places.
+    pub const ALL: [Flag; 8] = [Flag::Tf0, Flag::Tf1, Flag::Ie0, Flag::Ie1, Flag::Ri, Flag::Ti, Flag::Tf2, Flag::Exf2];
 }
 
 /// Addresses of the 82C53: the bytes of a counter's count, and the control word.
@@ -326,6 +345,34 @@ impl Device {
     pub fn offer(&self) -> Result<Option<u8>, Refusal> {
         let a = raw::c51_offer(*self);
         answer(a.code, (a.offered == 1).then_some(a.vector))
+    }
+
+    /// The cycle number after the cycle in which a flag last rose, or None where it never did since reset. It is read off the record,
+    /// which is not judged.
+    ///
+    /// A flag rises in a cycle that finds it 0 and leaves it 1, also in one of a jump or a trace run: one that is set again does not,
+    /// and a write by software never counts. Reset alone makes it none again; power-down and refused calls leave it. It wraps with
+    /// the cycle number, so that a flag that rose may have 0.
+    ///
+    /// ```
+    /// use c51::{address, Device, Flag, PINS_HIGH};
+    ///
+    /// let mut device = Device::reset(52)?;
+    /// device.write(address::TMOD, 0x02)?; // Timer 0 in mode 2
+    /// device.write(address::TH0, 0x06)?;
+    /// device.write(address::TL0, 0x06)?; // overflows in every 250th cycle
+    /// device.write(address::TCON, 0x30)?; // run, and TF0 by software
+    /// device.jump(PINS_HIGH, 1_000)?;
+    /// assert_eq!(device.last_rise(Flag::Tf0), None); // it was set again, four times
+    /// device.write(address::TCON, 0x10)?; // the program clears it
+    /// device.jump(PINS_HIGH, 1_000)?;
+    /// assert_eq!(device.last_rise(Flag::Tf0), Some(1_250));
+    /// # Ok::<(), c51::Refusal>(())
+    /// ```
+    #[inline]
+    pub fn last_rise(&self, flag: Flag) -> Option<u64> {
+        let place = flag as usize;
+        (self.times.ever[place] == 1).then_some(self.times.number[place])
     }
 
     /// Takes the interrupt that is offered, and clears IDL; gives the vector.

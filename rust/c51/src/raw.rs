@@ -72,6 +72,15 @@ pub struct Interrupts {
     pub high: u8,
 }
 
+/// When each flag last rose, at the place of its [`Flag`](crate::Flag): whether it ever did since reset, and the cycle number after
+/// the cycle in which it last did, 0 where it never did.
+#[repr(C)]
+#[derive(Clone, Copy, PartialEq, Eq, Debug, Default)]
+pub struct FlagTimes {
+    pub ever: [u8; 8],
+    pub number: [u64; 8],
+}
+
 /// The device record. The levels are those of RXD, INT0, INT1, T0, T1, T2, T2EX. The default is the record of zeros.
 #[repr(C)]
 #[derive(Clone, Copy, PartialEq, Eq, Debug, Default)]
@@ -84,6 +93,7 @@ pub struct Device {
     pub interrupts: Interrupts,
     pub levels: [u8; 7],
     pub cycle: u64,
+    pub times: FlagTimes,
 }
 
 /// A counter of the 82C53. A count is a number, in BCD too.

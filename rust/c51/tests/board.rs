@@ -1,7 +1,7 @@
 //! The 82C53 and the board that has both chips: what each counter does, each refusal and what it leaves, and jumps against single
 //! pulses and cycles.
 use c51::{address, control, flag, gate, out, pcon, port};
-use c51::{Board, Counter, Device, Interval, Refusal, GATES_HIGH, MAX_CYCLES, PINS_HIGH};
+use c51::{Board, Counter, Device, Flag, Interval, Refusal, GATES_HIGH, MAX_CYCLES, PINS_HIGH};
 
 const MODE0: u8 = control::BOTH | control::MODE0;
 const MODE2: u8 = control::BOTH | control::MODE2;
@@ -359,6 +359,9 @@ fn the_ranges_of_the_record() {
         [10_000, 65_535].into_iter().flat_map(changed).for_each(is_refused);
     }
     board_is_refused(Board { device: Device::default(), ..Board::reset(52).unwrap() });
+    let mut board = Board::reset(52).unwrap();
+    board.device.times.number[Flag::Exf2 as usize] = 1;
+    board_is_refused(board);
     // the outputs are given whatever the record: the low bit of each
     let mut interval = Interval::default();
     (interval.counter0.output, interval.counter1.output, interval.counter2.output) = (3, 254, 255);
@@ -385,11 +388,13 @@ fn counting_board() -> Board {
     board
 }
 
-/// 4 for either byte, before 5; both chips stay.
+/// 4 for either byte, before 5; both chips stay, and with the chip the time at which a flag last rose.
 #[test]
 fn refusals_of_the_board() {
-    let given = counting_board();
-    let mut board = given;
+    let mut board = counting_board();
+    board.jump(PINS_HIGH, GATES_HIGH, 20).unwrap();
+    assert_eq!(board.device.last_rise(Flag::Tf0), Some(16));
+    let given = board;
     assert_eq!(board.cycle(0x80, GATES_HIGH), Err(Refusal::BadPins));
     assert_eq!(board.cycle(PINS_HIGH, 8), Err(Refusal::BadPins));
     assert_eq!(board.jump(0xFF, GATES_HIGH, 1), Err(Refusal::BadPins));
@@ -414,6 +419,7 @@ fn a_board_jump_is_so_many_board_cycles() {
             assert_eq!(cycled, Board { device, interval });
         }
         assert_eq!(cycled.device.timers.tcon & flag::TF0, flag::TF0, "Timer 0 has overflowed");
+        assert_eq!(cycled.device.last_rise(Flag::Tf0), Some(16), "from FFF0");
     }
     let mut board = Board { device: Device::reset(51).unwrap(), ..counting_board() };
     board.jump(PINS_HIGH, GATES_HIGH, MAX_CYCLES).unwrap();
@@ -428,9 +434,11 @@ fn a_board_jump_is_so_many_board_cycles() {
 #[test]
 fn power_down_stops_the_chip_alone() {
     let mut board = counting_board();
+    board.jump(PINS_HIGH, GATES_HIGH, 20).unwrap();
     board.device.write(address::PCON, pcon::PD).unwrap();
     let mut interval = board.interval;
     let device = board.device;
+    assert_eq!(device.last_rise(Flag::Tf0), Some(16));
     for _ in 0..60 {
         assert_eq!(board.cycle(0, GATES_HIGH), Ok((1, interval.pulse(GATES_HIGH).unwrap())));
     }

@@ -1,4 +1,5 @@
-/* Every call of the library once from C, with an answer that the bench cards and the table of refusals give; and lists of calls. */
+/* Every call of the library once from C, with an answer that the bench cards and the table of refusals give; when flags last rose;
+ * and lists of calls. */
 #include <c51.h>
 #include <stdio.h>
 #include <string.h>
@@ -21,7 +22,8 @@ static int same(const c51_device *a, const c51_device *b) {
            memcmp(&a->interrupts, &b->interrupts, sizeof a->interrupts) == 0 && a->serial.scon == b->serial.scon &&
            a->serial.half == b->serial.half && a->serial.received == b->serial.received && as->position == bs->position &&
            as->value == bs->value && as->counter == bs->counter && ar->position == br->position && ar->value == br->value &&
-           ar->counter == br->counter && ar->votes == br->votes && ar->sample == br->sample;
+           ar->counter == br->counter && ar->votes == br->votes && ar->sample == br->sample &&
+           memcmp(&a->times, &b->times, sizeof a->times) == 0;
 }
 
 static void calls(void) {
@@ -86,6 +88,63 @@ static void calls(void) {
     check(c51_take(&device).code == C51_POWERED_DOWN, "take in power-down");
     check(c51_return(&device) == C51_POWERED_DOWN, "return in power-down");
     check(same(&device, &before), "power-down alters nothing");
+}
+
+/* Whether the flag, and no other, rose since reset, and has this number. */
+static int alone(const c51_device *device, int flag, uint64_t number) {
+    int i;
+    for (i = C51_FLAG_TF0; i <= C51_FLAG_EXF2; i++) {
+        if (i != flag && (C51_EVER_ROSE(*device, i) != 0 || C51_LAST_RISE(*device, i) != 0)) return 0;
+    }
+    return C51_EVER_ROSE(*device, flag) == 1 && C51_LAST_RISE(*device, flag) == number;
+}
+
+/* When flags last rose: Timer 0 in mode 1, which overflows in the second cycle from FFFE. */
+static void rises(void) {
+    c51_device reset = c51_reset(52).device, device = reset, jumped, before;
+    int i;
+    for (i = C51_FLAG_TF0; i <= C51_FLAG_EXF2; i++) {
+        check(C51_EVER_ROSE(reset, i) == 0 && C51_LAST_RISE(reset, i) == 0, "never after reset");
+    }
+    check(c51_write(&device, C51_TMOD, 0x01) == C51_PASSED && c51_write(&device, C51_TCON, 0x10) == C51_PASSED, "Timer 0 runs");
+    check(c51_write(&device, C51_TH0, 0xFF) == C51_PASSED && c51_write(&device, C51_TL0, 0xFE) == C51_PASSED, "from FFFE");
+    before = jumped = device;
+    check(c51_cycle(&device, C51_PINS_HIGH).code == C51_PASSED && C51_EVER_ROSE(device, C51_FLAG_TF0) == 0, "not in cycle 1");
+    check(c51_cycle(&device, C51_PINS_HIGH).code == C51_PASSED && alone(&device, C51_FLAG_TF0, 2), "TF0 rises in cycle 2");
+    check(c51_jump(&jumped, C51_PINS_HIGH, 2) == C51_PASSED && same(&jumped, &device), "a jump leaves what single cycles leave");
+
+    check(c51_cycle(&device, 0x80).code == C51_BAD_PINS, "cycle refused");
+    check(c51_jump(&device, C51_PINS_HIGH, C51_MAX_CYCLES + 1) == C51_TOO_LONG, "jump refused");
+    check(c51_write(&device, 0, 0) == C51_BAD_ADDRESS && c51_take(&device).code == C51_NOTHING_OFFERED, "write and take refused");
+    check(same(&device, &jumped), "refused calls keep the numbers");
+    check(c51_jump(&device, C51_PINS_HIGH, 65536) == C51_PASSED && alone(&device, C51_FLAG_TF0, 2), "TF0 is set again: no rise");
+    check(c51_write(&device, C51_TCON, 0x10) == C51_PASSED && alone(&device, C51_FLAG_TF0, 2), "a write clears it");
+    check(c51_jump(&device, C51_PINS_HIGH, 65536) == C51_PASSED && alone(&device, C51_FLAG_TF0, 131074), "the later of two rises");
+    check(c51_write(&device, C51_PCON, C51_PCON_PD) == C51_PASSED, "power-down");
+    check(c51_jump(&device, 0, C51_MAX_CYCLES) == C51_PASSED && alone(&device, C51_FLAG_TF0, 131074), "power-down keeps it");
+
+    device = before;
+    check(c51_write(&device, C51_TCON, 0x30) == C51_PASSED && c51_jump(&device, C51_PINS_HIGH, 9) == C51_PASSED, "TF0 by software");
+    check(memcmp(&device.times, &reset.times, sizeof device.times) == 0, "a write never counts");
+
+    device = before;
+    device.cycle = UINT64_MAX - 1;
+    check(c51_jump(&device, C51_PINS_HIGH, 2) == C51_PASSED && device.cycle == 0, "the cycle number wraps");
+    check(alone(&device, C51_FLAG_TF0, 0), "and the number with it");
+
+    for (i = C51_FLAG_TF0; i <= C51_FLAG_EXF2; i++) {
+        device = c51_reset(51).device;
+        device.times.ever[i] = 1;
+        check(c51_accepts(device) == 1 && alone(&device, i, 0), "a flag that rose at 0");
+        device.times.number[i] = UINT64_MAX;
+        check(c51_accepts(device) == 1 && alone(&device, i, UINT64_MAX), "a flag that rose at any number");
+        device.times.ever[i] = 2;
+        check(c51_accepts(device) == 0 && c51_offer(device).code == C51_BAD_RECORD, "neither ever nor never");
+        device.times.ever[i] = 0;
+        before = device;
+        check(c51_accepts(device) == 0 && c51_cycle(&device, C51_PINS_HIGH).code == C51_BAD_RECORD && same(&device, &before),
+              "never, with a number");
+    }
 }
 
 /* A call of a list, and its answer. */
@@ -303,6 +362,7 @@ static void speeds(void) {
 
 int main(void) {
     calls();
+    rises();
     lists();
     intervals();
     boards();

@@ -1,7 +1,7 @@
 //! The layout of the records and of the answers, size and each offset, and the constants: in Rust and in a C program
 //! that includes `c51.h`.
 use c51::raw::*;
-use c51::{address, call, control, gate, out, pcon, pin, port, Refusal};
+use c51::{address, call, control, gate, out, pcon, pin, port, Flag, Refusal};
 use c51::{GATES_HIGH, MAX_CRYSTAL, MAX_CYCLES, MAX_RATE, MAX_TOLERANCE, MAX_TRACE, PINS_HIGH};
 use std::collections::BTreeSet;
 use std::mem::{offset_of, size_of};
@@ -30,7 +30,7 @@ macro_rules! layout {
 
 fn places() -> Vec<Place> {
     layout! {
-        "c51_device" Device 56 {
+        "c51_device" Device 128 {
             kind 0, pcon 1,
             timers.tcon 2, timers.tmod 3, timers.tl0 4, timers.tl1 5, timers.th0 6, timers.th1 7, timers.due0 8, timers.due1 9,
             timer2.t2con 10, timer2.rcap2l 11, timer2.rcap2h 12, timer2.tl2 13, timer2.th2 14, timer2.due2 15,
@@ -40,7 +40,8 @@ fn places() -> Vec<Place> {
             serial.receive.sample 30,
             serial.half 32, serial.received 33,
             interrupts.ie 34, interrupts.ip 35, interrupts.seen 36, interrupts.polled 37, interrupts.low 38, interrupts.high 39,
-            levels 40, cycle 48
+            levels 40, cycle 48,
+            times.ever 56, times.number 64
         }
         "c51_timers" Timers 8 { tcon 0, tmod 1, tl0 2, tl1 3, th0 4, th1 5, due0 6, due1 7 }
         "c51_timer2" Timer2 6 { t2con 0, rcap2l 1, rcap2h 2, tl2 3, th2 4, due2 5 }
@@ -48,7 +49,8 @@ fn places() -> Vec<Place> {
         "c51_receiver" Receiver 8 { position 0, value 2, counter 4, votes 5, sample 6 }
         "c51_serial" Serial 18 { scon 0, send 2, receive 8, half 16, received 17 }
         "c51_interrupts" Interrupts 6 { ie 0, ip 1, seen 2, polled 3, low 4, high 5 }
-        "c51_answer" Answer 64 { code 0, device 8 }
+        "c51_flag_times" FlagTimes 72 { ever 0, number 8 }
+        "c51_answer" Answer 136 { code 0, device 8 }
         "c51_line_answer" LineAnswer 2 { code 0, line 1 }
         "c51_vector_answer" VectorAnswer 2 { code 0, vector 1 }
         "c51_value_answer" ValueAnswer 2 { code 0, value 1 }
@@ -59,7 +61,7 @@ fn places() -> Vec<Place> {
             count 12, reload 14, waiting 16, latch 18
         }
         "c53_interval" Interval 60 { counter0 0, counter1 20, counter2 40, counter2.latch 58 }
-        "c51_board" Board 120 { device 0, device.cycle 48, interval 56, interval.counter2.latch 114 }
+        "c51_board" Board 192 { device 0, device.cycle 48, device.times.number 64, interval 128, interval.counter2.latch 186 }
         "c53_outputs_answer" OutputsAnswer 2 { code 0, outputs 1 }
         "c51_board_answer" BoardAnswer 3 { code 0, line 1, outputs 2 }
         "c51_speed_answer" SpeedAnswer 16 { code 0, found 1, smod 2, th1 3, achieved 8 }
@@ -104,6 +106,14 @@ fn constants() -> Vec<Constant> {
         ("C51_BAD_CHOICE", Refusal::BadChoice as u64),
         ("C51_BAD_COUNT", Refusal::BadCount as u64),
         ("C51_BAD_SPEED", Refusal::BadSpeed as u64),
+        ("C51_FLAG_TF0", Flag::Tf0 as u64),
+        ("C51_FLAG_TF1", Flag::Tf1 as u64),
+        ("C51_FLAG_IE0", Flag::Ie0 as u64),
+        ("C51_FLAG_IE1", Flag::Ie1 as u64),
+        ("C51_FLAG_RI", Flag::Ri as u64),
+        ("C51_FLAG_TI", Flag::Ti as u64),
+        ("C51_FLAG_TF2", Flag::Tf2 as u64),
+        ("C51_FLAG_EXF2", Flag::Exf2 as u64),
         ("C51_MAX_CYCLES", MAX_CYCLES),
         ("C51_MAX_TRACE", MAX_TRACE as u64),
         ("C51_MAX_CRYSTAL", MAX_CRYSTAL),
@@ -172,11 +182,11 @@ fn the_layout_in_c() {
     }
 }
 
-/// The constants that the header defines.
+/// The constants that the header defines; a macro with arguments is none.
 fn names_in_c() -> BTreeSet<String> {
     let header = std::fs::read_to_string(dist().join("c51.h")).expect("the header");
     let name = |line: &str| match line.split_whitespace().collect::<Vec<&str>>()[..] {
-        ["#define", name, _, ..] | [name, "=", ..] => Some(name.to_string()),
+        ["#define", name, _, ..] | [name, "=", ..] if !name.contains('(') => Some(name.to_string()),
         _ => None,
     };
     header.lines().filter_map(name).collect()
@@ -197,11 +207,12 @@ fn the_constants_in_c() {
 /// fields.
 #[test]
 fn the_table_is_whole() {
-    let bytes: usize =
-        [size_of::<Timers>(), size_of::<Timer2>(), size_of::<Serial>(), size_of::<Interrupts>(), 2 + 7 + 8].iter().sum();
+    let parts = [size_of::<Timers>(), size_of::<Timer2>(), size_of::<Serial>(), size_of::<Interrupts>(), size_of::<FlagTimes>()];
+    let bytes = parts.iter().sum::<usize>() + 2 + 7 + 8;
     assert_eq!(bytes + 1, size_of::<Device>(), "one byte of padding before the cycle number");
     let of_device = places().iter().filter(|place| place.c.starts_with("offsetof(c51_device,")).count();
-    assert_eq!(of_device, 35, "41 numbers, of which the 7 levels are one array");
+    assert_eq!(of_device, 37, "57 numbers, of which the 7 levels are one array and the 16 flag times two");
+    assert_eq!(8 * (size_of::<u8>() + size_of::<u64>()), size_of::<FlagTimes>(), "no padding");
     assert_eq!(11 + 4 * size_of::<u16>() + 1, size_of::<Counter>(), "one byte of padding before the counts");
     let of_counter = places().iter().filter(|place| place.c.starts_with("offsetof(c53_counter,")).count();
     assert_eq!(of_counter, 11 + 4, "bytes and counts");

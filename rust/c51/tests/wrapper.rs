@@ -1,5 +1,6 @@
-//! The wrapper: each refusal that a call can meet, what a refused call leaves, and the values of each call.
-use c51::{address, call, pcon, raw, AnswerRow, Device, Refusal, ANSWER_WORDS, CALL_WORDS, MAX_CYCLES, MAX_TRACE, NONE, PINS_HIGH};
+//! The wrapper: each refusal that a call can meet, what a refused call leaves, the values of each call, and when flags last rose.
+use c51::{address, call, flag, pcon, pin, raw, AnswerRow, Device, Flag, FlagTimes, Refusal};
+use c51::{ANSWER_WORDS, CALL_WORDS, MAX_CYCLES, MAX_TRACE, NONE, PINS_HIGH};
 
 /// Timer 0 about to overflow, its interrupt enabled.
 fn timer_0_at_fffe() -> Device {
@@ -46,12 +47,10 @@ fn refusals() {
     assert_eq!(device, good);
 }
 
-#[test]
-fn a_bad_record_is_refused_by_every_call() {
-    let mut device = timer_0_at_fffe();
-    device.serial.receive.votes = 3;
-    let given = device;
-    assert!(!device.accepts());
+/// Every call but reset refuses the record by 1, before anything else, and leaves it.
+fn is_refused(given: Device) {
+    let mut device = given;
+    assert!(!device.accepts(), "{given:?}");
     assert_eq!(device.read(address::TCON), Err(Refusal::BadRecord));
     assert_eq!(device.write(address::TCON, 0), Err(Refusal::BadRecord));
     assert_eq!(device.cycle(PINS_HIGH), Err(Refusal::BadRecord));
@@ -64,7 +63,14 @@ fn a_bad_record_is_refused_by_every_call() {
     assert_eq!(device.take(), Err(Refusal::BadRecord));
     assert_eq!(device.return_from_interrupt(), Err(Refusal::BadRecord));
     assert_eq!(device, given);
-    assert!(!Device::default().accepts());
+}
+
+#[test]
+fn a_bad_record_is_refused_by_every_call() {
+    let mut device = timer_0_at_fffe();
+    device.serial.receive.votes = 3;
+    is_refused(device);
+    is_refused(Device::default());
 }
 
 #[test]
@@ -254,6 +260,218 @@ fn the_order_of_refusals_in_power_down() {
     assert_eq!(device.write(address::PCON, 0), Err(Refusal::BadRecord), "1 before 10");
     assert_eq!(device.take(), Err(Refusal::BadRecord));
     assert_eq!(device.return_from_interrupt(), Err(Refusal::BadRecord));
+}
+
+/// What each flag's last rise is, in the order of the places.
+fn last_rises(device: &Device) -> [Option<u64>; 8] {
+    Flag::ALL.map(|flag| device.last_rise(flag))
+}
+
+/// Each flag by itself: the writes and the pins with which it rises in a cycle from reset, and that cycle. INT0 is level-triggered,
+/// INT1 edge-triggered; both frames are of serial mode 0.
+#[test]
+fn each_flag_has_its_place() {
+    let rises: [(Flag, &[(u8, u8)], u8, u64); 8] = [
+        (Flag::Tf0, &[(address::TMOD, 0x01), (address::TH0, 0xFF), (address::TL0, 0xFE), (address::TCON, 0x10)], PINS_HIGH, 2),
+        (Flag::Tf1, &[(address::TMOD, 0x10), (address::TH1, 0xFF), (address::TL1, 0xFD), (address::TCON, 0x40)], PINS_HIGH, 3),
+        (Flag::Ie0, &[], PINS_HIGH & !pin::INT0, 1),
+        (Flag::Ie1, &[(address::TCON, 0x04)], PINS_HIGH & !pin::INT1, 1),
+        (Flag::Ri, &[(address::SCON, 0x10)], PINS_HIGH, 10),
+        (Flag::Ti, &[(address::SBUF, 0x55)], PINS_HIGH, 10),
+        (Flag::Tf2, &[(address::TH2, 0xFF), (address::TL2, 0xFC), (address::T2CON, 0x04)], PINS_HIGH, 4),
+        (Flag::Exf2, &[(address::T2CON, 0x0C)], PINS_HIGH & !pin::T2EX, 1),
+    ];
+    assert_eq!(rises.map(|(flag, ..)| flag), Flag::ALL);
+    assert_eq!(Flag::ALL.map(|flag| flag as usize), [0, 1, 2, 3, 4, 5, 6, 7]);
+    for (flag, writes, pins, cycle) in rises {
+        let mut device = Device::reset(52).unwrap();
+        assert_eq!((device.times, last_rises(&device)), (FlagTimes::default(), [None; 8]), "never after reset");
+        for &(address, value) in writes {
+            device.write(address, value).unwrap();
+        }
+        for number in 1..=cycle {
+            assert_eq!(last_rises(&device), [None; 8], "{flag:?}, before cycle {number}");
+            device.cycle(pins).unwrap();
+        }
+        let alone = |number: u64| Flag::ALL.map(|other| (other == flag).then_some(number));
+        assert_eq!(last_rises(&device), alone(cycle), "{flag:?}");
+        assert_eq!((device.times.ever[flag as usize], device.times.number[flag as usize]), (1, cycle));
+        device.jump(pins, 100).unwrap();
+        assert_eq!(last_rises(&device), alone(cycle), "{flag:?} stays 1, and does not rise");
+    }
+}
+
+/// A write never counts, whether it sets a flag or clears it; neither does a take that clears one.
+#[test]
+fn software_never_counts() {
+    let flags = [
+        (address::TCON, flag::TF1 | flag::TF0 | flag::IE1 | flag::IE0),
+        (address::SCON, flag::TI | flag::RI),
+        (address::T2CON, flag::TF2 | flag::EXF2),
+    ];
+    let mut device = Device::reset(52).unwrap();
+    for set in [1, 0, 1] {
+        for (address, mask) in flags {
+            device.write(address, set * mask).unwrap();
+            assert_eq!(device.times, FlagTimes::default());
+        }
+        device.jump(PINS_HIGH, 3).unwrap();
+        assert_eq!(device.times, FlagTimes::default());
+    }
+    // TF0 is set by software, and the overflow sets it again
+    let mut device = timer_0_at_fffe();
+    device.write(address::TCON, 0x30).unwrap();
+    device.jump(PINS_HIGH, 3).unwrap();
+    assert_eq!((device.timers.tl0, device.last_rise(Flag::Tf0)), (1, None));
+    // the take clears TF0, and leaves when it rose
+    let mut device = timer_0_at_fffe();
+    device.jump(PINS_HIGH, 3).unwrap();
+    let times = device.times;
+    assert_eq!((device.take(), device.timers.tcon, device.last_rise(Flag::Tf0)), (Ok(0x0B), 0x10, Some(2)));
+    device.return_from_interrupt().unwrap();
+    assert_eq!(device.times, times);
+    device.replay(&[[call::RESET, 52, 0]], &[], &mut [[0; ANSWER_WORDS]]);
+    assert_eq!(device.times, FlagTimes::default(), "reset clears it");
+}
+
+/// The later of two rises counts. IE0 follows INT0 where it is level-triggered, so that a trace run makes it rise time and again.
+#[test]
+fn a_flag_that_rises_again() {
+    let mut device = Device::reset(51).unwrap();
+    const LOW: u32 = ((PINS_HIGH & !pin::INT0) as u32) << 24;
+    const HIGH: u32 = (PINS_HIGH as u32) << 24;
+    device.trace(&[HIGH | 4, LOW | 3, HIGH | 1, LOW | 100, HIGH | 50]).unwrap();
+    assert_eq!((device.cycle, device.timers.tcon, device.last_rise(Flag::Ie0)), (158, 0, Some(9)));
+    device.jump(PINS_HIGH & !pin::INT0, MAX_CYCLES).unwrap();
+    assert_eq!(device.last_rise(Flag::Ie0), Some(159));
+}
+
+/// A device on which four flags rise in the first cycles: TF0 in 2, TI in 10, TF2 in 30, and TF1 in 200.
+fn four_rises() -> Device {
+    let mut device = timer_0_at_fffe();
+    let writes = [
+        (address::TMOD, 0x11),
+        (address::TH1, 0xFF),
+        (address::TL1, 0x38),
+        (address::SBUF, 0x35),
+        (address::TH2, 0xFF),
+        (address::TL2, 0xE2),
+        (address::T2CON, 0x04),
+        (address::TCON, 0x50),
+    ];
+    for (address, value) in writes {
+        device.write(address, value).unwrap();
+    }
+    device
+}
+
+/// Jumps and trace runs leave what single cycles leave, cut anywhere, and a list does too.
+#[test]
+fn jumps_leave_what_single_cycles_leave() {
+    const NEVER: u64 = u64::MAX;
+    let mut cycled = four_rises();
+    for n in 0..300 {
+        let expected = [2, 200, NEVER, NEVER, NEVER, 10, 30, NEVER].map(|number| (number <= n).then_some(number));
+        assert_eq!((cycled.cycle, last_rises(&cycled)), (n, expected));
+        let [mut jumped, mut traced, mut listed] = [four_rises(); 3];
+        jumped.jump(PINS_HIGH, n / 3).unwrap();
+        jumped.jump(PINS_HIGH, n - n / 3).unwrap();
+        assert_eq!(jumped, cycled, "{n} cycles");
+        if n > 0 {
+            traced.trace(&[u32::from(PINS_HIGH) << 24 | n as u32]).unwrap();
+            assert_eq!(traced, cycled, "{n} cycles");
+        }
+        listed.replay(&[[call::JUMP, PINS_HIGH.into(), n]], &[], &mut [[0; ANSWER_WORDS]]);
+        assert_eq!(listed, cycled, "{n} cycles");
+        cycled.cycle(PINS_HIGH).unwrap();
+    }
+}
+
+/// The number is the one after the cycle, and wraps with it: a flag that rises in the cycle that ends at 0 has 0.
+#[test]
+fn the_number_wraps() {
+    for (before, number) in [(0, 2), (7, 9), (u64::MAX - 2, u64::MAX), (u64::MAX - 1, 0), (u64::MAX, 1)] {
+        let mut device = Device { cycle: before, ..timer_0_at_fffe() };
+        device.jump(PINS_HIGH, 5).unwrap();
+        assert_eq!((device.last_rise(Flag::Tf0), device.accepts()), (Some(number), true), "from {before}");
+    }
+}
+
+/// Refused calls, calls that only look and power-down keep every pair, also pairs that no run has left.
+#[test]
+fn what_keeps_the_pairs() {
+    let mut device = four_rises();
+    device.jump(PINS_HIGH, 300).unwrap();
+    device.write(address::IE, 0).unwrap();
+    device.times.ever[Flag::Ri as usize] = 1;
+    device.times.number[Flag::Ri as usize] = u64::MAX;
+    let given = device;
+    assert_eq!(last_rises(&given), [Some(2), Some(200), None, None, Some(u64::MAX), Some(10), Some(30), None]);
+    // in a list each call has the device itself
+    const PINS: u64 = PINS_HIGH as u64;
+    let rows = [
+        ([call::READ, address::TCON as u64, 0], 0),
+        ([call::LOOK, PINS, 1_000], 0),
+        ([call::WAKE, PINS, 1_000], 0),
+        ([call::OFFER, 0, 0], 0),
+        ([call::JUMP, PINS, 0], 0),
+        ([call::TRACE, 0, 0], 0),
+        ([call::READ, 0x80, 0], 3),
+        ([call::WRITE, 0x80, 1], 3),
+        ([call::CYCLE, 0x80, 0], 4),
+        ([call::JUMP, 0x80, 1], 4),
+        ([call::JUMP, PINS, MAX_CYCLES + 1], 5),
+        ([call::TRACE, 0, 2], 8),
+        ([call::TRACE, 2, 4], 4),
+        ([call::TRACE, 0, MAX_TRACE as u64 + 1], 5),
+        ([call::LOOK, 0x80, 1], 4),
+        ([call::LOOK, PINS, MAX_CYCLES + 1], 5),
+        ([call::WAKE, 0x80, 1], 4),
+        ([call::WAKE, PINS, MAX_CYCLES + 1], 5),
+        ([call::TAKE, 0, 0], 6),
+        ([call::RETURN, 0, 0], 7),
+    ];
+    // a good entry, an empty one, a good one and one with bad pins
+    let mut entries = vec![0x7F00_0001; MAX_TRACE + 1];
+    (entries[1], entries[3]) = (0x7F00_0000, 0x8000_0001);
+    for (row, code) in rows {
+        let mut answers = [[0; ANSWER_WORDS]];
+        device.replay(&[row], &entries, &mut answers);
+        assert_eq!((answers[0][0], device), (code, given), "{row:?}");
+    }
+    device.write(address::PCON, pcon::PD).unwrap();
+    assert_eq!(device.write(address::TCON, 0), Err(Refusal::PoweredDown));
+    assert_eq!(device.take(), Err(Refusal::PoweredDown));
+    // INT0 falls, and nothing is heard of it
+    device.cycle(0).unwrap();
+    device.jump(0, MAX_CYCLES).unwrap();
+    device.trace(&[0x0000_0001, 0x7FFF_FFFF]).unwrap();
+    assert_eq!(device, Device { pcon: pcon::PD, ..given });
+}
+
+/// An ever of 0 goes with 0 alone, an ever of 1 with any number, and no other is accepted; on kind 51 for TF2 and EXF2 too.
+#[test]
+fn the_ranges_of_the_pairs() {
+    let given = Device { cycle: 1_000, ..Device::reset(51).unwrap() };
+    for given in [given, Device { kind: 52, ..given }] {
+        for flag in Flag::ALL {
+            let with = |ever: u8, number: u64| {
+                let mut device = given;
+                device.times.ever[flag as usize] = ever;
+                device.times.number[flag as usize] = number;
+                device
+            };
+            assert_eq!((with(0, 0).accepts(), with(0, 0).last_rise(flag)), (true, None));
+            for number in [0, 1, 999, 1_000, 1_001, 1 << 63, u64::MAX] {
+                assert_eq!((with(1, number).accepts(), with(1, number).last_rise(flag)), (true, Some(number)));
+                (2..=255).for_each(|ever| assert!(!with(ever, number).accepts(), "{flag:?}: {ever}, {number}"));
+            }
+            (0..64).for_each(|bit| assert!(!with(0, 1 << bit).accepts(), "{flag:?}: never, 2^{bit}"));
+            for (ever, number) in [(2, 0), (2, 7), (255, 0), (128, u64::MAX), (0, 1), (0, 1_000), (0, 1 << 63), (0, u64::MAX)] {
+                is_refused(with(ever, number));
+            }
+        }
+    }
 }
 
 /// An answer in a list: its code, how many numbers it gives, and the first of them.

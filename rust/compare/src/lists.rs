@@ -2,7 +2,7 @@
 use crate::pair::{Pair, Tally};
 use crate::speeds::speed_call;
 use crate::{entry, STAGE};
-use c51::{address, control, pcon, port};
+use c51::{address, control, flag, pcon, port};
 use c51::{Board, Counter, Device, Interval, Timer2, GATES_HIGH, MAX_CYCLES, PINS_HIGH};
 use random::Rng;
 use replay::board::BoardCall;
@@ -68,6 +68,16 @@ fn some_pcon(rng: &mut Rng) -> u8 {
     rng.byte() & !pcon::PD | pd
 }
 
+/// The bits of a register other than its flags; of T2CON also without RCLK and TCLK, with which TF2 does not rise.
+fn but_flags(address: u8) -> u8 {
+    match address {
+        address::TCON => !(flag::TF1 | flag::TF0 | flag::IE1 | flag::IE0),
+        address::SCON => !(flag::TI | flag::RI),
+        address::T2CON => 0x0F,
+        _ => 0xFF,
+    }
+}
+
 /// A record of any content within the ranges and masks: reachable or not, it is accepted.
 fn good_record(rng: &mut Rng) -> Device {
     let mut d = any_record(rng);
@@ -96,8 +106,17 @@ fn good_record(rng: &mut Rng) -> Device {
             *count |= rng.pick(&[0xFF, 0xFC, 0xF0]);
         }
     }
+    if rng.one_in(2) {
+        d.timers.tcon &= but_flags(address::TCON);
+        d.serial.scon &= but_flags(address::SCON);
+        d.timer2.t2con &= but_flags(address::T2CON);
+    }
     if rng.one_in(8) {
         d.cycle = u64::MAX - rng.below(4);
+    }
+    for (ever, number) in d.times.ever.iter_mut().zip(&mut d.times.number) {
+        *ever &= 1;
+        *number = if *ever == 1 { rng.pick(&[0, 1, d.cycle, u64::MAX, *number]) } else { 0 };
     }
     if d.kind == 51 {
         d.interrupts.ie &= 0x9F;
@@ -112,7 +131,7 @@ fn spoilt_record(rng: &mut Rng) -> Device {
     let mut d = good_record(rng);
     let wild = any_record(rng);
     for _ in 0..rng.between(1, 2) {
-        match rng.below(20) {
+        match rng.below(24) {
             0 => d.kind = rng.pick(&[0, 50, 51, 52, 53, wild.kind]),
             1 => d.pcon = wild.pcon,
             2 => d.interrupts.ie = wild.interrupts.ie,
@@ -137,7 +156,12 @@ fn spoilt_record(rng: &mut Rng) -> Device {
                 *[&mut interrupts.seen, &mut interrupts.polled, &mut interrupts.low, &mut interrupts.high][field] =
                     rng.pick(&[2, 63, 64, wild.interrupts.seen]);
             }
-            _ => d.levels[rng.below(7) as usize] = rng.pick(&[2, 255]),
+            19 => d.levels[rng.below(7) as usize] = rng.pick(&[2, 255]),
+            _ => {
+                let flag = rng.below(8) as usize;
+                d.times.ever[flag] = rng.pick(&[0, 0, 0, 2, 255, wild.times.ever[flag]]);
+                d.times.number[flag] = rng.pick(&[0, 1, 256, 1 << 63, u64::MAX, wild.times.number[flag]]);
+            }
         }
     }
     d
@@ -288,6 +312,17 @@ fn some_address(rng: &mut Rng) -> u8 {
     }
 }
 
+/// A value to write; half of the counts are about to overflow, and half of the flags are 0, so that they rise.
+fn some_value(rng: &mut Rng, address: u8) -> u8 {
+    let value = rng.byte();
+    match address {
+        address::PCON => some_pcon(rng),
+        _ if rng.one_in(2) => value,
+        address::TL0 | address::TL1 | address::TH0 | address::TL2 | address::TH2 | address::RCAP2H => value | 0xFC,
+        _ => value & but_flags(address),
+    }
+}
+
 /// The names of the calls.
 #[derive(Clone, Copy)]
 enum Name {
@@ -321,10 +356,10 @@ const NAMES: [Name; 11] = [
 /// The call of that name with random arguments.
 fn call(rng: &mut Rng, name: Name, most: u64) -> Call {
     match name {
-        Name::Write => match some_address(rng) {
-            address::PCON => Call::Write(address::PCON, some_pcon(rng)),
-            address => Call::Write(address, rng.byte()),
-        },
+        Name::Write => {
+            let address = some_address(rng);
+            Call::Write(address, some_value(rng, address))
+        }
         Name::Read => Call::Read(some_address(rng)),
         Name::Cycle => Call::Cycle(pins(rng)),
         Name::Jump => Call::Jump(pins(rng), cycles(rng, most)),

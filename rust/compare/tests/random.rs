@@ -1,5 +1,5 @@
 //! A fixed number of lists and raw records of fixed seeds, and that the comparison finds what it must.
-use c51::{call, flag, pcon, Board, Counter, Device, Interval, ANSWER_WORDS, GATES_HIGH, MAX_CYCLES, PINS_HIGH};
+use c51::{call, flag, pcon, Board, Counter, Device, FlagTimes, Interval, ANSWER_WORDS, GATES_HIGH, MAX_CYCLES, PINS_HIGH};
 use c51model::baud::{distance, rate_of};
 use c51model::interval::board_jump;
 use c51model::{coverage, script};
@@ -36,14 +36,21 @@ fn scripts_of_the_model() {
     assert!(total.cycles > 1_000_000, "{total:?}");
     assert!(total.of_the_board > SCRIPTS_OF_A_STYLE * LINES, "{total:?}");
     assert!(total.for_a_speed > SCRIPTS_OF_A_STYLE * LINES / 2, "{total:?}");
+    assert_eq!(rare_rules(SIX, 100), [""; 0], "each flag's first and later rises");
 }
 
-/// The rules of the 82C53 that the model has followed in this thread fewer times than so often.
-fn rare_rules(least: u64) -> Vec<&'static str> {
+/// How the names of the rules that a request brought begin.
+const THREE: &str = "3: ";
+const SIX: &str = "6: ";
+
+/// The rules of a request that the model has followed in this thread fewer times than so often.
+fn rare_rules(request: &str, least: u64) -> Vec<&'static str> {
     let [on_51, on_52] = coverage::counts();
     let times = on_51.iter().zip(&on_52).map(|(a, b)| a + b);
-    let of_request_three = coverage::NAMES.iter().zip(times).filter(|(name, _)| name.starts_with("3: "));
-    of_request_three.filter(|&(_, times)| times < least).map(|(name, _)| *name).collect()
+    let rules: Vec<(&str, u64)> =
+        coverage::NAMES.iter().copied().zip(times).filter(|(name, _)| name.starts_with(request)).collect();
+    assert!(!rules.is_empty(), "no rule begins with {request}");
+    rules.into_iter().filter(|&(_, times)| times < least).map(|(name, _)| name).collect()
 }
 
 #[test]
@@ -57,22 +64,42 @@ fn fresh_lists() {
     assert!(total.woken > LISTS / 20, "{total:?}");
     assert!(total.of_the_board > total.calls / 4, "{total:?}");
     assert!(total.for_a_speed > total.calls / 50, "{total:?}");
-    assert_eq!(rare_rules(50), [""; 0], "every rule of the 82C53");
+    assert_eq!(rare_rules(THREE, 50), [""; 0], "every rule of the 82C53");
+    assert_eq!(rare_rules(SIX, 10), [""; 0], "each flag's first and later rises");
+}
+
+/// Which pairs of the flag times a record has: in an accepted one ever with 0, and ever with the greatest number; in one that is
+/// refused for its pairs alone never with a number, and an ever above 1.
+fn kinds_of_pairs(device: &Device) -> [bool; 4] {
+    let pairs = || device.times.ever.into_iter().zip(device.times.number);
+    let accepted = device.accepts();
+    let refused = !accepted && Device { times: FlagTimes::default(), ..*device }.accepts();
+    [
+        accepted && pairs().any(|pair| pair == (1, 0)),
+        accepted && pairs().any(|pair| pair == (1, u64::MAX)),
+        refused && pairs().any(|(ever, number)| ever == 0 && number != 0),
+        refused && pairs().any(|(ever, _)| ever > 1),
+    ]
 }
 
 #[test]
 fn raw_records() {
     let mut accepted = [0; 2];
+    let mut kinds = [0; 4];
     let mut total = Tally::default();
     for seed in 0..RECORDS {
         let rng = &mut Rng::part(2, seed);
-        accepted[0] += u64::from(raw_record(rng).accepts());
+        let device = raw_record(rng);
+        accepted[0] += u64::from(device.accepts());
         accepted[1] += u64::from(raw_interval(rng).accepts());
+        kinds.iter_mut().zip(kinds_of_pairs(&device)).for_each(|(count, has)| *count += u64::from(has));
         total += run_record(&mut Rng::part(2, seed)).unwrap_or_else(|what| panic!("record {seed}: {what}"));
     }
     for accepted in accepted {
         assert!(accepted > RECORDS / 3 && accepted < RECORDS * 2 / 3, "{accepted} of {RECORDS} accepted");
     }
+    assert!(kinds.iter().all(|&count| count > RECORDS / 100), "{kinds:?}");
+    assert_eq!(rare_rules(SIX, RECORDS / 100), [""; 0], "each flag's first and later rises");
     assert_eq!((total.calls, total.of_the_board), (18 * RECORDS, 7 * RECORDS));
     assert!((total.calls / 40..total.calls / 5).contains(&total.in_power_down), "{total:?}");
     assert!(total.woken > RECORDS / 100, "{total:?}");

@@ -255,6 +255,8 @@ mod tests {
         let mut device = Device { kind: 255, cycle: u64::MAX, ..Device::default() };
         device.serial.send.value = u16::MAX;
         device.levels[6] = 9;
+        device.times.ever[0] = 255;
+        device.times.number[6] = u64::MAX;
         let line = format!("S {}", text(&device));
         let request = request(line.as_bytes()).expect("a record");
         assert_eq!(request, Request::Put(Box::new(device)));

@@ -16,7 +16,7 @@ macro_rules! fields {
 }
 
 /// How many numbers a record has.
-pub const NUMBERS: usize = 41;
+pub const NUMBERS: usize = 57;
 
 /// The fields in the order of a script's numbers.
 #[rustfmt::skip]
@@ -34,6 +34,9 @@ pub const FIELDS: [Field; NUMBERS] = fields![
     cycle,
     // the saved levels of RXD, INT0, INT1, T0, T1, T2, T2EX
     levels[0], levels[1], levels[2], levels[3], levels[4], levels[5], levels[6],
+    // when TF0, TF1, IE0, IE1, RI, TI, TF2, EXF2 last rose
+    times.ever[0], times.number[0], times.ever[1], times.number[1], times.ever[2], times.number[2], times.ever[3], times.number[3],
+    times.ever[4], times.number[4], times.ever[5], times.number[5], times.ever[6], times.number[6], times.ever[7], times.number[7],
 ];
 
 /// The numbers of a record.
@@ -84,9 +87,12 @@ mod tests {
         assert_eq!((device.timers.due0, device.timers.due1, device.timer2.due2), (27, 28, 29));
         assert_eq!((device.interrupts.seen, device.interrupts.high, device.cycle), (30, 33, 34));
         assert_eq!(device.levels, [35, 36, 37, 38, 39, 40, 41]);
+        assert_eq!(device.times.ever, [42, 44, 46, 48, 50, 52, 54, 56]);
+        assert_eq!(device.times.number, [43, 45, 47, 49, 51, 53, 55, 57]);
     }
 
-    /// A byte each, but the two values and the cycle number; what a field holds fits, and one more does not.
+    /// A byte each, but the two values, the cycle number and the numbers of the flag times; what a field holds fits, and one more does
+    /// not.
     #[test]
     fn the_widths_of_the_fields() {
         let mut full = Device::default();
@@ -94,7 +100,7 @@ mod tests {
         for (place, most) in numbers(&full).into_iter().enumerate() {
             let expected = match place {
                 18 | 21 => u16::MAX.into(),
-                33 => u64::MAX,
+                33 | 42 | 44 | 46 | 48 | 50 | 52 | 54 | 56 => u64::MAX,
                 _ => u8::MAX.into(),
             };
             assert_eq!(most, expected, "number {place}");

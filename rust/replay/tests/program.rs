@@ -1,4 +1,5 @@
 //! The program: what it answers at once, how much memory it takes, its exit statuses and messages.
+use replay::record::NUMBERS;
 use std::fs::File;
 use std::io::{BufRead, BufReader, Read, Write};
 use std::process::{Child, ChildStdin, ChildStdout, Command, Output, Stdio};
@@ -125,8 +126,10 @@ fn very_many_answers() {
     let Session { input, answers, .. } = &mut session;
     std::thread::scope(|scope| {
         scope.spawn(|| input.write_all(&b"D\n".repeat(DUMPS)).expect("the script is read"));
-        let zeros = "0 ".repeat(40) + "0";
-        assert!(answers.lines().take(DUMPS).all(|answer| answer.expect("an answer") == zeros));
+        let zeros = ["0"; NUMBERS].join(" ");
+        // all of them are read, also where one differs: the program waits for it
+        let dumps = answers.lines().take(DUMPS).filter(|answer| answer.as_ref().expect("an answer") == &zeros);
+        assert_eq!(dumps.count(), DUMPS);
     });
     session.check_memory("many dumps");
     session.end();

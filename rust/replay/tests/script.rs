@@ -11,8 +11,10 @@ fn answers(script: &[u8]) -> String {
 }
 
 /// The device after reset, as a dump has it.
-const RESET: &str = "52 0 0 0 0 0 0 0 0 0 0 0 0 0 0 0 0 0 0 0 0 0 0 0 1 0 0 0 0 0 0 0 0 0 1 1 1 1 1 1 1";
-const ZEROS: &str = "0 0 0 0 0 0 0 0 0 0 0 0 0 0 0 0 0 0 0 0 0 0 0 0 0 0 0 0 0 0 0 0 0 0 0 0 0 0 0 0 0";
+const RESET: &str =
+    "52 0 0 0 0 0 0 0 0 0 0 0 0 0 0 0 0 0 0 0 0 0 0 0 1 0 0 0 0 0 0 0 0 0 1 1 1 1 1 1 1 0 0 0 0 0 0 0 0 0 0 0 0 0 0 0 0";
+const ZEROS: &str =
+    "0 0 0 0 0 0 0 0 0 0 0 0 0 0 0 0 0 0 0 0 0 0 0 0 0 0 0 0 0 0 0 0 0 0 0 0 0 0 0 0 0 0 0 0 0 0 0 0 0 0 0 0 0 0 0 0 0";
 
 /// Every form of a line, with its answer: Timer 0 overflows in idle, its interrupt is taken, and power-down follows, in which counter 0
 /// of the 82C53 goes on, in mode 2 with a count of 257. A speed is asked for on the way, and before all else.
@@ -53,12 +55,12 @@ const LINES: [(&str, &str); 76] = [
     ("K", "0 11"),
     ("K", "6 0"),
     ("I", "0 0"),
-    ("D", "52 0 16 1 1 0 0 0 0 0 130 0 0 0 0 0 0 0 0 0 0 0 0 0 1 0 0 0 0 0 0 0 0 3 1 1 1 1 1 1 1"),
+    ("D", "52 0 16 1 1 0 0 0 0 0 130 0 0 0 0 0 0 0 0 0 0 0 0 0 1 0 0 0 0 0 0 0 0 3 1 1 1 1 1 1 1 1 2 0 0 0 0 0 0 0 0 0 0 0 0 0 0"),
     ("W 135 2", "0 0"),
     ("W 135 0", "10 0"),
     ("Z 127 1", "0 none"),
     ("J 127 1", "0 0"),
-    ("D", "52 2 16 1 1 0 0 0 0 0 130 0 0 0 0 0 0 0 0 0 0 0 0 0 1 0 0 0 0 0 0 0 0 3 1 1 1 1 1 1 1"),
+    ("D", "52 2 16 1 1 0 0 0 0 0 130 0 0 0 0 0 0 0 0 0 0 0 0 0 1 0 0 0 0 0 0 0 0 3 1 1 1 1 1 1 1 1 2 0 0 0 0 0 0 0 0 0 0 0 0 0 0"),
     ("VC 7", "0 0"),
     ("VW 3 52", "0 0"),
     ("VW 0 1", "0 0"),
@@ -86,7 +88,7 @@ const LINES: [(&str, &str); 76] = [
     ("V R", "?"),
     ("B 18446744073709551615 0 18446744073709551615", "14 0 0 0"),
     ("J 127 1", "0 0"),
-    ("D", "52 2 16 1 1 0 0 0 0 0 130 0 0 0 0 0 0 0 0 0 0 0 0 0 1 0 0 0 0 0 0 0 0 3 1 1 1 1 1 1 1"),
+    ("D", "52 2 16 1 1 0 0 0 0 0 130 0 0 0 0 0 0 0 0 0 0 0 0 0 1 0 0 0 0 0 0 0 0 3 1 1 1 1 1 1 1 1 2 0 0 0 0 0 0 0 0 0 0 0 0 0 0"),
     ("R 53", "2 0"),
     ("VB 127 7", "1 0 0"),
     ("VX 127 7 1", "1 0 0"),
@@ -120,9 +122,31 @@ fn a_refused_reset_leaves_the_record_of_zeros() {
 
 #[test]
 fn a_record_that_is_put_is_not_judged() {
-    let any = (1..=41).map(|n| n.to_string()).collect::<Vec<String>>().join(" ");
-    let text = format!("S {any}\nD\nC 127\nD\nS {RESET}\nC 127\nS {any} 1\nS {}\nr 137\n", any.replace("41", "256"));
-    assert_eq!(answers(text.as_bytes()), format!("0 0\n{any}\n1 0\n{any}\n0 0\n0 1\n? 7\n? 8\n0 0\n"));
+    let any = (1..=57).map(|n| n.to_string()).collect::<Vec<String>>().join(" ");
+    let wide = |n: &str| any.replace(n, "256");
+    let text = format!("S {any}\nD\nC 127\nD\nS {RESET}\nC 127\nS {any} 1\nS {}\nS {}\nr 137\n", wide("41"), wide("56"));
+    assert_eq!(answers(text.as_bytes()), format!("0 0\n{any}\n1 0\n{any}\n0 0\n0 1\n? 7\n? 8\n? 9\n0 0\n"));
+    // never with a number, and an ever of 2: refused by the calls; any number goes with ever
+    for (last, code) in [("0 1", 1), ("2 0", 1), ("0 18446744073709551615", 1), ("1 18446744073709551615", 0), ("1 0", 0)] {
+        let record = RESET.strip_suffix("0 0").expect("the pair of EXF2").to_string() + last;
+        assert_eq!(answers(format!("S {record}\nW 137 0\nD\n").as_bytes()), format!("0 0\n{code} 0\n{record}\n"));
+    }
+}
+
+/// After each line that passes time the dump has when a flag last rose: here INT0 falls, and IE0 rises with it.
+#[test]
+fn when_a_flag_last_rose() {
+    for (lines, passed, number, cycle) in [
+        ("C 127\nC 125\n", "0 1\n0 1\n", 2, 2),
+        ("J 127 9\nJ 125 7\n", "0 0\n0 0\n", 10, 16),
+        ("T 3 2097152003 2130706435 2097152002\n", "0 0\n", 7, 8),
+        ("VB 127 0\nVB 125 0\n", "0 1 0\n0 1 0\n", 2, 2),
+        ("VX 125 0 4\nVX 127 0 5\nVX 125 0 3\n", "0 0 0\n0 0 0\n0 0 0\n", 10, 12),
+    ] {
+        let text = format!("R 52\n{lines}J 127 100\nD\n");
+        let dump = RESET.replace(" 0 1 1 1 1 1 1 1 0 0 0 0 0 0 ", &format!(" {} 1 1 1 1 1 1 1 0 0 0 0 1 {number} ", cycle + 100));
+        assert_eq!(answers(text.as_bytes()), format!("0 0\n{passed}0 0\n{dump}\n"), "{lines}");
+    }
 }
 
 /// The 82C53 stands as its reset leaves it before any `VR`, which resets it alone, as `R` and `S` do the chip.

@@ -1,5 +1,5 @@
 //! What a station asks of its chips: the 80C52, and the 82C53 where it has one. No call that a station makes is refused.
-use c51::{Board, Device};
+use c51::{Board, Device, Flag};
 
 /// Machine cycles a second: 11.0592 MHz by 12.
 pub const CYCLES_A_SECOND: u64 = 921_600;
@@ -15,6 +15,8 @@ pub trait Chips {
     fn wake_look(&self, pins: u8, n: u64) -> Option<u64>;
     fn take(&mut self) -> u8;
     fn return_from_interrupt(&mut self);
+    /// The cycle number after the cycle in which a flag last rose.
+    fn last_rise(&self, flag: Flag) -> Option<u64>;
     /// The 80C52's record.
     fn record(&self) -> Device;
 
@@ -62,6 +64,10 @@ impl Chips for Board {
 
     fn return_from_interrupt(&mut self) {
         self.device.return_from_interrupt().expect(PASSES)
+    }
+
+    fn last_rise(&self, flag: Flag) -> Option<u64> {
+        self.device.last_rise(flag)
     }
 
     fn record(&self) -> Device {

@@ -3,12 +3,10 @@ use crate::chips::Chips;
 use crate::frame::Stretch;
 use crate::timing::Timing;
 use crate::vcd::{Levels, Waveform};
-use c51::{address, flag, pcon, pin, PINS_HIGH};
+use c51::{address, flag, pcon, pin, Flag, PINS_HIGH};
 
 /// The vector of the serial port.
 const SERIAL_VECTOR: u8 = 0x23;
-/// Cycles from RI's rise to the offer: the cycle after it polls it.
-const POLL: u64 = 1;
 
 /// Timer 1 in mode 2 with reload FD, serial mode 1 with REN, the serial interrupt enabled.
 pub const SETUP: [(u8, u8); 6] = [
@@ -24,7 +22,7 @@ pub const SETUP: [(u8, u8); 6] = [
 #[derive(Clone, Copy, PartialEq, Eq, Debug)]
 pub struct Received {
     pub byte: u8,
-    /// The cycle in which its RI rose.
+    /// The cycle in which its RI rose, as the chip keeps it.
     pub cycle: u64,
     /// Whether its interrupt ended idle.
     pub woke: bool,
@@ -129,7 +127,8 @@ impl<C: Chips> Reader<C> {
         assert_eq!(vector, SERIAL_VECTOR, "no other interrupt is enabled");
         let woke = was_idle && !self.is_idle();
         let byte = self.chips.read(address::SBUF);
-        self.received.push(Received { byte, cycle: self.chips.record().cycle - POLL, woke });
+        let cycle = self.chips.last_rise(Flag::Ri).expect("RI rose: its interrupt is taken");
+        self.received.push(Received { byte, cycle, woke });
         if let Some(timing) = &mut self.timing {
             timing.byte(&mut self.chips, byte);
         }
@@ -182,6 +181,21 @@ mod tests {
             assert_eq!(reader.take_received(), [Received { byte, cycle: chip.cycle + rise, woke: true }]);
             let chip = reader.chips.device;
             assert_eq!((chip.pcon, chip.interrupts.low, chip.serial.scon & flag::RI), (0x08 | pcon::IDL, 0, 0));
+        }
+    }
+
+    /// The cycle after that of RI's rise polls it, and there the interrupt is taken: the cycle that the chip keeps is one before.
+    #[test]
+    fn the_take_comes_a_cycle_after_the_rise() {
+        const POLL: u64 = 1;
+        for phase in 0..TICK {
+            let mut reader: Reader<Board> = Reader::new();
+            reader.hold(Stretch { rxd: 1, cycles: 100 + phase });
+            frame(0x39, None)[..9].iter().for_each(|&bit| reader.hold(bit));
+            let wake = reader.chips.wake_look(PINS_HIGH, BIT).expect("an interrupt");
+            reader.hold(Stretch { rxd: 1, cycles: wake });
+            let taken = reader.chips.device.cycle;
+            assert_eq!(reader.take_received(), [Received { byte: 0x39, cycle: taken - POLL, woke: true }]);
         }
     }
 

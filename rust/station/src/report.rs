@@ -23,6 +23,11 @@ fn time(row: &Row) -> String {
     }
 }
 
+/// The cycle of a tag's last digit, where it has one.
+fn last_digit(row: &Row) -> String {
+    row.last_digit.map_or("-".to_string(), |cycle| cycle.to_string())
+}
+
 fn verdict(row: &Row) -> String {
     if row.right() {
         "as sent".to_string()
@@ -31,8 +36,8 @@ fn verdict(row: &Row) -> String {
     }
 }
 
-/// What a row shows: station, cycle, seconds, tag, noisy samples, time by the 82C53, verdict.
-fn fields(row: &Row) -> [String; 7] {
+/// What a row shows: station, cycle, seconds, tag, noisy samples, time by the 82C53, cycle of the last digit, verdict.
+fn fields(row: &Row) -> [String; 8] {
     [
         row.station.to_string(),
         row.cycle.to_string(),
@@ -40,15 +45,18 @@ fn fields(row: &Row) -> [String; 7] {
         row.tag.clone(),
         row.noisy_samples.to_string(),
         time(row),
+        last_digit(row),
         verdict(row),
     ]
 }
 
 pub fn table(rows: &[Row]) -> String {
-    let mut text = format!("station {:>16} {:>14}  {:<15} noisy samples  ms by 82C53  verdict\n", "cycle", "seconds", "tag");
+    let (cycle, seconds, tag) = ("cycle", "seconds", "tag");
+    let mut text = format!("station {cycle:>16} {seconds:>14}  {tag:<15} noisy samples  ms by 82C53  last digit cycle  verdict\n");
     for row in rows {
-        let [station, cycle, seconds, tag, noisy_samples, time, verdict] = fields(row);
-        text += &format!("{station:>7} {cycle:>16} {seconds:>14}  {tag:<15} {noisy_samples:>13}  {time:>11}  {verdict}\n");
+        let [station, cycle, seconds, tag, noisy_samples, time, last_digit, verdict] = fields(row);
+        text += &format!("{station:>7} {cycle:>16} {seconds:>14}  {tag:<15} {noisy_samples:>13}  {time:>11}  ");
+        text += &format!("{last_digit:>16}  {verdict}\n");
     }
     let wrong = rows.iter().filter(|row| !row.right()).count();
     let noisy: u64 = rows.iter().map(|row| row.noisy_samples).sum();
@@ -84,7 +92,7 @@ fn timed(rows: &[Row]) -> String {
 }
 
 pub fn csv(rows: &[Row]) -> String {
-    let mut text = String::from("station,cycle,seconds,tag,noisy_samples,ms_by_82c53,verdict\n");
+    let mut text = String::from("station,cycle,seconds,tag,noisy_samples,ms_by_82c53,last_digit_cycle,verdict\n");
     for row in rows {
         text += &fields(row).join(",");
         text += "\n";

@@ -1,7 +1,7 @@
 //! A run of stations side by side: what each is sent, and what it reads.
 use crate::chips::Chips;
 use crate::frame::{frame, Noise, Stretch, BIT, BITS, SAMPLES};
-use crate::reader::Reader;
+use crate::reader::{Reader, Received};
 use crate::timing::{Time, Timing, CARRIAGE_RETURN};
 use crate::vcd::Waveform;
 use random::Rng;
@@ -31,7 +31,7 @@ pub struct Plan {
 pub struct Row {
     /// From 1.
     pub station: usize,
-    /// The cycle in which RI rose for the last byte.
+    /// The cycle in which RI rose for the last byte, which is the carriage return of a tag that has one.
     pub cycle: u64,
     pub tag: String,
     pub sent: String,
@@ -40,6 +40,8 @@ pub struct Row {
     pub woken: usize,
     /// What the 82C53 says of it, where the station has one.
     pub time: Option<Time>,
+    /// The cycle in which RI rose for the last digit, where the tag has one.
+    pub last_digit: Option<u64>,
 }
 
 impl Row {
@@ -101,7 +103,15 @@ impl<C: Chips> Station<C> {
         let bytes: Vec<u8> = received.iter().map(|r| r.byte).collect();
         let tag = shown(&bytes);
         let time = self.reader.timing.as_mut().map(Timing::take_time);
-        Row { station: self.number, cycle, tag, sent, noisy_samples, woken, time }
+        Row { station: self.number, cycle, tag, sent, noisy_samples, woken, time, last_digit: last_digit(&received) }
+    }
+}
+
+/// The cycle in which RI rose for the last digit of a tag: the byte before its carriage return, where that is a digit.
+fn last_digit(received: &[Received]) -> Option<u64> {
+    match received {
+        [.., digit, end] if digit.byte.is_ascii_digit() && end.byte == CARRIAGE_RETURN => Some(digit.cycle),
+        _ => None,
     }
 }
 
@@ -131,4 +141,69 @@ pub fn run<C: Chips>(plan: &Plan, drawn: Option<usize>, mut progress: impl FnMut
     }
     rows.sort_by_key(|row| (row.cycle, row.station));
     (rows, stations.into_iter().find_map(|station| station.reader.waveform))
+}
+
+#[cfg(test)]
+mod tests {
+    use super::*;
+    use crate::frame::TICK;
+    use c51::{pin, Board, Device, PINS_HIGH};
+
+    /// The cycle of a stretch in which a flag first rises: single cycles, and before each a look ahead over it.
+    fn rise(mut device: Device, stretch: Stretch) -> Option<u64> {
+        let pins = if stretch.rxd == 1 { PINS_HIGH } else { PINS_HIGH & !pin::RXD };
+        for _ in 0..stretch.cycles {
+            let look = device.look_ahead(pins, 1).unwrap();
+            device.cycle(pins).unwrap();
+            if look.is_some() {
+                return Some(device.cycle);
+            }
+        }
+        None
+    }
+
+    /// At every phase the cycle of each byte, and with it that of the last digit, is the one that single cycles find; the station
+    /// itself jumps, and serves the interrupt in between.
+    #[test]
+    fn the_last_digit_by_single_cycles() {
+        for pause in 0..TICK {
+            for mut reader in [Reader::<Board>::new(), Reader::with_interval()] {
+                // TF1 rises once, before the first byte
+                reader.hold(Stretch { rxd: 1, cycles: 1_000 });
+                let mut rises = Vec::new();
+                for byte in b"271828182845904\r" {
+                    for stretch in [vec![Stretch { rxd: 1, cycles: BIT + pause }], frame(*byte, None)].concat() {
+                        rises.extend(rise(reader.chips.device, stretch));
+                        reader.hold(stretch);
+                    }
+                }
+                let received = reader.take_received();
+                assert_eq!(received.iter().map(|r| r.cycle).collect::<Vec<u64>>(), rises, "a pause of {pause}");
+                assert_eq!((rises.len(), last_digit(&received)), (DIGITS + 1, Some(rises[DIGITS - 1])), "a pause of {pause}");
+            }
+        }
+    }
+
+    /// A tag that does not end with a digit and its carriage return has no last digit.
+    #[test]
+    fn a_tag_without_a_last_digit() {
+        let received = |bytes: &[u8]| -> Vec<Received> {
+            bytes.iter().zip(7..).map(|(&byte, cycle)| Received { byte, cycle, woke: true }).collect()
+        };
+        for (bytes, expected) in [
+            (&b"12345\r"[..], Some(11)),
+            (b"12x45\r", Some(11)),
+            (b"1\r", Some(7)),
+            (b"12\r345\r", Some(12)),
+            (b"", None),
+            (b"\r", None),
+            (b"1", None),
+            (b"12345", None),
+            (b"1234x\r", None),
+            (b"12345x", None),
+            (b"12345\r\r", None),
+        ] {
+            assert_eq!(last_digit(&received(bytes)), expected, "{}", bytes.escape_ascii());
+        }
+    }
 }

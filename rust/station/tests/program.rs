@@ -25,7 +25,12 @@ fn eleven_stations_read_what_was_sent() {
     }
     let cycles: Vec<u64> = rows.iter().map(|row| row[1].parse().unwrap()).collect();
     assert!(cycles.is_sorted() && cycles[0] > 9_216 + 16 * 960 - 96);
-    assert!(rows.iter().all(|row| row[3].len() == 15 && row[6..] == ["as", "sent"]));
+    assert!(rows.iter().all(|row| row[3].len() == 15 && row[7..] == ["as", "sent"]));
+    for (row, cycle) in rows.iter().zip(cycles) {
+        // a pause of less than two bits and the frame of the carriage return, each RI found by a tick
+        let before = cycle - row[6].parse::<u64>().expect("the cycle of the last digit");
+        assert!((960 - 6..960 + 2 * 96 + 6).contains(&before), "{row:?}");
+    }
     let noisy: u64 = rows.iter().map(|row| row[4].parse::<u64>().unwrap()).sum();
     assert!(noisy > 20);
     let summary = format!("22 tags, 330 digits, all as sent; {noisy} noisy samples; woken from idle 352 times");
@@ -42,7 +47,7 @@ fn the_csv_is_the_table() {
     assert!(ran.status.success());
     let table = text(&ran.stdout);
     let csv = std::fs::read_to_string(&file).unwrap();
-    assert_eq!(csv.lines().next(), Some("station,cycle,seconds,tag,noisy_samples,ms_by_82c53,verdict"));
+    assert_eq!(csv.lines().next(), Some("station,cycle,seconds,tag,noisy_samples,ms_by_82c53,last_digit_cycle,verdict"));
     assert_eq!(csv.lines().count(), 6);
     for (row, line) in table.lines().skip(1).zip(csv.lines().skip(1)) {
         assert_eq!(row.split_whitespace().collect::<Vec<&str>>().join(","), line.replace("as sent", "as,sent"));
@@ -109,8 +114,11 @@ fn a_tag_that_has_no_end() {
         let (open, timed): (Vec<&Vec<&str>>, Vec<&Vec<&str>>) = rows.iter().partition(|row| row[5] == "no-end");
         assert_eq!((open.len() + timed.len(), open.is_empty()), (300, false), "{out}");
         assert!(open.iter().all(|row| row[3].ends_with("...")), "{out}");
-        assert!(timed.iter().any(|row| row[6..] == ["as", "sent"]), "{out}");
+        assert!(timed.iter().any(|row| row[7..] == ["as", "sent"]), "{out}");
         assert!(timed.iter().all(|row| (15.6..18.8).contains(&milliseconds(row[5]))), "{out}");
+        // a last digit where the tag that is shown ends with one
+        assert!(rows.iter().all(|row| row[3].ends_with(|c: char| c.is_ascii_digit()) == (row[6] != "-")), "{out}");
+        assert!(timed.iter().any(|row| row[6] == "-"), "{out}");
     }
 }
 

@@ -72,10 +72,13 @@ fn waveform(file: &str, line: &str) -> Vcd {
     Vcd::read(&std::fs::read_to_string(&path).expect("a waveform"))
 }
 
+/// Also in the table: a row has the cycles of its last two frames, that of the last digit as the flag times of the chip have it.
 #[test]
 fn every_frame_is_found() {
     let tags = ["271828182845904", "314159265358979"];
-    let vcd = waveform("frames.vcd", &format!("--gap 0.3 --stations 1 --tag {} {} --seed 3", tags[0], tags[1]));
+    let csv = Path::new(env!("CARGO_TARGET_TMPDIR")).join("frames.csv");
+    let line = format!("--gap 0.3 --stations 1 --tag {} {} --seed 3 --csv {}", tags[0], tags[1], csv.display());
+    let vcd = waveform("frames.vcd", &line);
     let bytes = tags.iter().flat_map(|tag| tag.bytes().chain([b'\r']));
     let mut now = 0;
     let mut outvoted = 0;
@@ -116,7 +119,14 @@ fn every_frame_is_found() {
         now = last_sample + 1;
     }
     assert!(outvoted > 0, "some sample is outvoted");
-    assert_eq!(vcd.changes["RI"].iter().filter(|change| change.1 == 1).count(), 32);
+    let rises: Vec<i64> = vcd.changes["RI"].iter().filter(|change| change.1 == 1).map(|change| change.0).collect();
+    assert_eq!(rises.len(), 32);
+    let csv = std::fs::read_to_string(&csv).expect("a table");
+    let rows: Vec<Vec<&str>> = csv.lines().skip(1).map(|row| row.split(',').collect()).collect();
+    assert_eq!(rows.len(), 2);
+    for (row, rises) in rows.iter().zip(rises.chunks(16)) {
+        assert_eq!((row[6], row[1]), (rises[14].to_string().as_str(), rises[15].to_string().as_str()));
+    }
     assert!(starts[16] - starts[15] > 276_480, "the gap lies between the tags");
 }
 

@@ -21,7 +21,7 @@ use Rattle.lists.proofs.replay.Symbol.{name as #lists·replay}
 use Rattle.lists.proofs.replay.Met as replay-thm
 use Rattle.lent.proofs.Locals.{in-snd, first-cell}
 use Rattle.lent.proofs.Lent.{value, itself, no-result, read-slice, altered-slice, Passed, Others, values, vals, Way, asks-nothing, exported}
-use Rattle.c51_lent.proofs.Structs.{device}
+use Rattle.lent.proofs.Structs.{device}
 use Rattle.c51_lent.proofs.c51_replay.Key.{name as #c51-lent·c51-replay}
 use Rattle.c51_lent.proofs.c51_replay as lent
 use Rattle.c51_lent.proofs.c51_replay.Statement as stated

@@ -12,7 +12,7 @@ use Rattle.c51_interrupt.proofs.reti.Symbol as reti-def
 use Rattle.c51_interrupt.proofs.reti.Symbol.{name as #c51-interrupt·reti}
 use Rattle.c51_interrupt.proofs.reti.Met as reti-thm
 use Rattle.lent.proofs.Lent.{value, in-field, one-byte, Passed, values, in-order, asks-nothing, exported}
-use Rattle.c51_lent.proofs.Structs.{device, answer-carries, answer-code}
+use Rattle.lent.proofs.Structs.{device, answer-carries, answer-code}
 use Rattle.c51_lent.proofs.c51_return.Key.{name as #c51-lent·c51-return}
 use Rattle.c51_lent.proofs.c51_return as lent
 use Rattle.c51_lent.proofs.c51_return.Statement as stated

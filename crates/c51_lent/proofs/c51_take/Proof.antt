@@ -15,7 +15,7 @@ use Rattle.c51_interrupt.proofs.take.Met as take-thm
 use Rattle.c51_lent.proofs.VectorAnswer as N
 use Rattle.c51_lent.proofs.VectorAnswer.Laws as N′
 use Rattle.lent.proofs.Lent.{value, in-field, Bytes, none, _and_, some-bytes, Passed, values, in-order, asks-nothing, exported}
-use Rattle.c51_lent.proofs.Structs.{device, take-answer-carries, take-code, take-vector}
+use Rattle.lent.proofs.Structs.{device, take-answer-carries, take-code, take-vector}
 use Rattle.c51_lent.proofs.c51_take.Key.{name as #c51-lent·c51-take}
 use Rattle.c51_lent.proofs.c51_take as lent
 use Rattle.c51_lent.proofs.c51_take.Statement as stated

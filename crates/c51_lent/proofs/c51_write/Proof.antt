@@ -13,7 +13,7 @@ use Rattle.c51_access.proofs.write.Symbol as write-def
 use Rattle.c51_access.proofs.write.Symbol.{name as #c51-access·write}
 use Rattle.c51_access.proofs.write.Met as write-thm
 use Rattle.lent.proofs.Lent.{value, in-field, one-byte, number, Passed, values, in-order, asks-nothing, exported}
-use Rattle.c51_lent.proofs.Structs.{device, answer-carries, answer-code}
+use Rattle.lent.proofs.Structs.{device, answer-carries, answer-code}
 use Rattle.c51_lent.proofs.c51_write.Key.{name as #c51-lent·c51-write}
 use Rattle.c51_lent.proofs.c51_write as lent
 use Rattle.c51_lent.proofs.c51_write.Statement as stated

@@ -7,7 +7,7 @@ use Rattle.strides.proofs.Runs.{cycles-none}
 use borrow.Author.Needs.{needs}
 use Rattle.jump.specs.Rounds.{Ready}
 use Rattle.jump.proofs.Idles.{idle-on}
-use Rattle.jump.proofs.Rounds.{quiet-on, round-used, round-ready, round-on}
+use Rattle.jump.proofs.Rounds.{round-used, round-ready, round-on}
 use Rattle.jump.proofs.advance.Statement.{statement}
 use Rattle.jump.proofs.advance.Tie as tie
 
@@ -29,18 +29,9 @@ returns c =
     let w = q .before .before .before in
     idle-on (w .before .args .pins) (w .loop .at) (w .loop .inv .0) (q .idles .ensures) (c .before .if1 .taken) (w .loop .left) (c .idle .ensures) (w .loop .inv .2)
 
-stride-requires : tie.Need-stride-requires Inv-loop μ-loop
-stride-requires c κs = omega (arith, c .before .before .before .before .ahead .ensures .1)
-
-returns-2 : tie.Need-returns-2 Inv-loop μ-loop
-returns-2 c =
-    let h = c .before .before .before .before .before in
-    let w = h .before .before in
-    quiet-on (w .before .args .pins) (w .loop .left) (w .loop .at) (w .loop .inv .0) (h .ahead .ensures .1) (c .before .if2 .taken) (c .stride .ensures) (w .loop .inv .2)
-
 one-round-requires : tie.Need-one-round-requires Inv-loop μ-loop
 one-round-requires c κs =
-    let h = c .before .before .before .before in
+    let h = c .before .before in
     (h .before .before .loop .inv .0, omega arith, omega arith, h .ahead .ensures .1)
 
 sub-left : tie.Need-sub-left Inv-loop μ-loop
@@ -52,14 +43,14 @@ loop-less c = omega (arith, round-used _ _ _ (c .before .before .one-round .ensu
 loop-again : tie.Need-loop-again Inv-loop μ-loop
 loop-again c =
     let r = c .before .before in
-    let i = r .before .before .before .before .before .before .before .loop .inv in
+    let i = r .before .before .before .before .before .loop .inv in
     (round-ready _ _ _ (r .one-round .ensures) (omega arith) (i .0), omega arith, round-on _ _ _ (r .one-round .ensures) (omega arith) (i .2))
 
-returns-3 : tie.Need-returns-3 Inv-loop μ-loop
-returns-3 c = sym (cycles-none _ _ _ (c .loop-test .left)) ∙ c .before .loop .inv .2
+returns-2 : tie.Need-returns-2 Inv-loop μ-loop
+returns-2 c = sym (cycles-none _ _ _ (c .loop-test .left)) ∙ c .before .loop .inv .2
 
 pub advance-spec : {M : Type 1} → statement M
 advance-spec =
     tie.close
-    (tie.spec Inv-loop μ-loop loop-holds (search needs) idles-requires (search needs) returns stride-requires returns-2
-    one-round-requires sub-left loop-less loop-again returns-3)
+    (tie.spec Inv-loop μ-loop loop-holds (search needs) idles-requires (search needs) returns
+    one-round-requires sub-left loop-less loop-again returns-2)

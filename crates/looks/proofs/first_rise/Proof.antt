@@ -2,6 +2,7 @@
 use mathlib.Core.Path.{_≡_, sym, ap, _∙_}
 use Prim.Native.Nat.{ℕ, _-_, _≤_}
 use native.Mathlib.Omega.{arith}
+use Rattle.machine.specs.Flags.{flags}
 use Rattle.machine.specs.Calls.{rises, firstCycle}
 use Rattle.jump.specs.Rounds.{Ready}
 use Rattle.jump.proofs.Rounds.{round-used, round-ready}
@@ -47,22 +48,24 @@ add-done : tie.Need-add-done Inv-loop μ-loop
 add-done c = omega (arith, round-used _ _ _ (c .before .before .one-round .ensures) (omega arith))
 
 returns-3 : tie.Need-returns-3 Inv-loop μ-loop
+unfolding flags
 returns-3 c = let o = c .before .before .before .before in
     let t = o .before .before .before .before .before .before in
     let l = t .before in
-    look-here hears-rises _ _ _ _ (t .loop-test .taken) (o .one-round .ensures) (l .loop .inv .0 .good) tt (l .loop .inv .2) (sym (c .before .rose .ensures) ∙ c .if3 .taken)
+    look-here hears-rises _ _ _ _ (t .loop-test .taken) (o .one-round .ensures) (l .loop .inv .0 .good) tt (l .loop .inv .2) (sym (c .before .any-rises .ensures) ∙ c .if3 .taken)
 
 loop-less : tie.Need-loop-less Inv-loop μ-loop
 loop-less c = let o = c .before .before .before .before in
     omega (arith, round-used _ _ _ (o .one-round .ensures) (omega arith))
 
 loop-again : tie.Need-loop-again Inv-loop μ-loop
+unfolding flags
 loop-again c = let o = c .before .before .before .before in
     let t = o .before .before .before .before .before .before in
     let l = t .before in (
       round-ready _ _ _ (o .one-round .ensures) (omega arith) (l .loop .inv .0),
       omega (arith, round-used _ _ _ (o .one-round .ensures) (omega arith)),
-      look-on hears-rises _ _ _ _ (t .loop-test .taken) (o .one-round .ensures) (l .loop .inv .0 .good) tt (l .loop .inv .2) (sym (c .before .rose .ensures) ∙ c .if3 .left),
+      look-on hears-rises _ _ _ _ (t .loop-test .taken) (o .one-round .ensures) (l .loop .inv .0 .good) tt (l .loop .inv .2) (sym (c .before .any-rises .ensures) ∙ c .if3 .left),
     )
 
 returns-4 : tie.Need-returns-4 Inv-loop μ-loop

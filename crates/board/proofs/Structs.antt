@@ -1,0 +1,33 @@
+-- The board as a struct that is lent, and where the answers of its calls have it and their bytes.
+use mathlib.Core.Path.{refl}
+use Rattle.board.proofs.Board as Board
+use Rattle.board.proofs.Board.Laws as Board′
+use Rattle.board.proofs.BoardCycleAnswer as CycleAnswer
+use Rattle.board.proofs.BoardCycleAnswer.Laws as CycleAnswer′
+use Rattle.board.proofs.BoardJumpAnswer as JumpAnswer
+use Rattle.board.proofs.BoardJumpAnswer.Laws as JumpAnswer′
+use Rattle.lent.proofs.Lent.{Struct, Carries, Byte}
+
+abbrev pub board : Struct
+board = record { type = Board.the-type; laws = Board′.the-laws; plains = Board′.the-plain }
+
+abbrev pub cycle-carries : Carries board CycleAnswer.the-type CycleAnswer′.the-laws 3
+cycle-carries = record { struct = λ r. r .board; offset = 8; found = refl; held = λ r. refl; owns = λ r known. known .1 .1 .1 .0 }
+
+abbrev pub jump-carries : Carries board JumpAnswer.the-type JumpAnswer′.the-laws 2
+jump-carries = record { struct = λ r. r .board; offset = 8; found = refl; held = λ r. refl; owns = λ r known. known .1 .1 .0 }
+
+abbrev pub cycle-code : Byte CycleAnswer.the-type CycleAnswer′.the-laws 0
+cycle-code = record { byte = λ r. r .code; offset = 0; found = refl; held = λ r. refl; fits = λ r known. known .0 .1 }
+
+abbrev pub cycle-line : Byte CycleAnswer.the-type CycleAnswer′.the-laws 1
+cycle-line = record { byte = λ r. r .line; offset = 1; found = refl; held = λ r. refl; fits = λ r known. known .1 .0 .1 }
+
+abbrev pub cycle-outputs : Byte CycleAnswer.the-type CycleAnswer′.the-laws 2
+cycle-outputs = record { byte = λ r. r .outputs; offset = 2; found = refl; held = λ r. refl; fits = λ r known. known .1 .1 .0 .1 }
+
+abbrev pub jump-code : Byte JumpAnswer.the-type JumpAnswer′.the-laws 0
+jump-code = record { byte = λ r. r .code; offset = 0; found = refl; held = λ r. refl; fits = λ r known. known .0 .1 }
+
+abbrev pub jump-outputs : Byte JumpAnswer.the-type JumpAnswer′.the-laws 1
+jump-outputs = record { byte = λ r. r .outputs; offset = 1; found = refl; held = λ r. refl; fits = λ r known. known .1 .0 .1 }

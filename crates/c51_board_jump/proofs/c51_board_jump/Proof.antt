@@ -1,0 +1,48 @@
+-- `c51_board_jump` meets its contract: the walk of `lent` around `board::jump`.
+use mathlib.Core.Path.{_≡_, refl, ap}
+use mathlib.Core.List.{[], _∷_, List}
+use mir.Syntax.{w64, w8}
+use base.Logic.{emp, id⊢}
+use contract.Monad.{factI}
+use denote.Struct.Laws as LL
+use denote.Triple.Spec.{tripleOf}
+use Rattle.board.specs.Board.{jumpAnswer}
+use Rattle.board.specs.declared.BoardJumpAnswer.{BoardJumpAnswer}
+use Rattle.board.proofs.BoardJumpAnswer.Laws as R
+use Rattle.board.proofs.jump as jump
+use Rattle.board.proofs.jump.Symbol as jump-def
+use Rattle.board.proofs.jump.Symbol.{name as #board·jump}
+use Rattle.board.proofs.jump.Met as jump-thm
+use Rattle.c51_board_jump.proofs.BoardJumped as N
+use Rattle.c51_board_jump.proofs.BoardJumped.Laws as N′
+use Rattle.lent.proofs.Lent.{value, in-field, Bytes, none, _and_, some-bytes, number, Passed, values, in-order, asks-nothing, exported}
+use Rattle.board.proofs.Structs.{board, jump-carries, jump-code, jump-outputs}
+use Rattle.c51_board_jump.proofs.c51_board_jump.Key.{name as #c51-board-jump·c51-board-jump}
+use Rattle.c51_board_jump.proofs.c51_board_jump as lent
+use Rattle.c51_board_jump.proofs.c51_board_jump.Statement as stated
+use Rattle.c51_board_jump.proofs.c51_board_jump.Code as code
+
+abbrev params : List (Passed 1)
+params = number w8 ∷ number w8 ∷ number w64 ∷ []
+
+abbrev numbers : Bytes (jump-code and jump-outputs and none) N.the-type
+numbers = record {
+  make = λ r. record { code = r .code; outputs = r .outputs };
+  plains = N′.the-plain;
+  typed = λ r fits. (tt, (record { fits = fits .0 }, (record { fits = fits .1 .0 }, tt)));
+  is = λ r fits. LL.owes N.the-type N′.the-laws (record { code = r .code; outputs = r .outputs }) ((refl, fits .0), ((refl, fits .1 .0), tt));
+}
+
+pub c51-board-jump-spec : {M : Type 1} → stated.statement M
+unfolding code.routine
+c51-board-jump-spec 𝓤 H 𝓜 𝓖 𝓡 =
+    exported 𝓤 H 𝓜 𝓖 𝓡 code.env #c51-board-jump·c51-board-jump (in-field 2 jump-carries) (in-order params R.mir) (some-bytes (jump-code and jump-outputs and none) N.the-type numbers) #board·jump (code.unfolded 𝓤 H 𝓜 𝓡) (lent.clauses 𝓤 H (𝓖 .A) (𝓜 .mem) (𝓡 .run))
+    (tripleOf 𝓤 H (𝓖 .A) jump.signature (jump.spec 𝓤 H (𝓖 .A) (𝓜 .mem) (𝓡 .run))) jump-def.routine code.calls-board·jump (jump-thm.met 𝓤 H 𝓜 𝓖 𝓡)
+    record {
+      Told = λ κs h a r ws. r ≡ jumpAnswer h (a .0) (a .1 .0) (a .1 .1 .0);
+      to = λ κs qs h a. ((κs .1, qs .1, tt, (h, a), (value board h ∷ [], values κs params a)), tt);
+      args = λ κs qs h a. refl;
+      asks = λ κs qs h a. asks-nothing 𝓤 _;
+      gives = λ κs qs h a v. id⊢ 𝓤 _;
+      shows = λ κs x a g r ws told. factI 𝓤 _ (emp 𝓤) (ap (λ (y : BoardJumpAnswer). y .code) told, (ap (λ (y : BoardJumpAnswer). y .outputs) told, ap (λ (y : BoardJumpAnswer). y .board) told));
+    }

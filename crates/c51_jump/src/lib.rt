@@ -1,0 +1,15 @@
+// For C: a jump over a device record that is lent by reference and altered there, thin over `c51_run::jump`; nothing is asked of the
+// record. An export by itself, so that the compiler makes one function of it and all that it calls.
+ghost use mathlib.Core.Path.{_≡_};
+ghost use Rattle.machine.specs.Calls as Machine;
+use machine::Device;
+
+// n cycles with one pin byte: 1, 4, 5.
+#[no_mangle]
+pub extern "C" fn c51_jump(d: &mut Device, pins: u8, n: u64) -> u8
+    ensures { λ r. ⌜ (r ≡ Machine.jumpAnswer (now (d .entry)) pins n .code) × (now (d .exit) ≡ Machine.jumpAnswer (now (d .entry)) pins n .device) ⌝ }
+{
+    let jumped = c51_run::jump(*d, pins, n);
+    *d = jumped.device;
+    jumped.code
+}

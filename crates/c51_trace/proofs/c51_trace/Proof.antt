@@ -1,0 +1,37 @@
+-- `c51_trace` meets its contract: the walk of `lent` around `c51_run::trace`.
+use mathlib.Core.Path.{_≡_, refl, ap}
+use mathlib.Core.List.{[], _∷_, List}
+use mir.Syntax.{w32}
+use base.Logic.{emp, id⊢}
+use contract.Monad.{factI}
+use denote.Triple.Spec.{tripleOf}
+use Rattle.machine.specs.Calls.{traceAnswer}
+use Rattle.machine.specs.declared.RunAnswer.{RunAnswer}
+use Rattle.machine.proofs.RunAnswer.Laws as R
+use Rattle.c51_run.proofs.trace as trace
+use Rattle.c51_run.proofs.trace.Symbol as trace-def
+use Rattle.c51_run.proofs.trace.Symbol.{name as #c51-run·trace}
+use Rattle.c51_run.proofs.trace.Met as trace-thm
+use Rattle.lent.proofs.Lent.{value, in-field, one-byte, read-slice, Passed, values, in-order, asks-nothing, exported}
+use Rattle.lent.proofs.Structs.{device, run-answer-carries, run-code}
+use Rattle.c51_trace.proofs.c51_trace.Key.{name as #c51-trace·c51-trace}
+use Rattle.c51_trace.proofs.c51_trace as lent
+use Rattle.c51_trace.proofs.c51_trace.Statement as stated
+use Rattle.c51_trace.proofs.c51_trace.Code as code
+
+abbrev params : List (Passed 2)
+params = read-slice 1 tt w32 ∷ []
+
+pub c51-trace-spec : {M : Type 1} → stated.statement M
+unfolding code.routine
+c51-trace-spec 𝓤 H 𝓜 𝓖 𝓡 =
+    exported 𝓤 H 𝓜 𝓖 𝓡 code.env #c51-trace·c51-trace (in-field 1 run-answer-carries) (in-order params R.mir) (one-byte 0 run-code) #c51-run·trace (code.unfolded 𝓤 H 𝓜 𝓡) (lent.clauses 𝓤 H (𝓖 .A) (𝓜 .mem) (𝓡 .run))
+    (tripleOf 𝓤 H (𝓖 .A) trace.signature (trace.spec 𝓤 H (𝓖 .A) (𝓜 .mem) (𝓡 .run))) trace-def.routine code.calls-c51-run·trace (trace-thm.met 𝓤 H 𝓜 𝓖 𝓡)
+    record {
+      Told = λ κs h a r ws. r ≡ traceAnswer h (a .0 .now);
+      to = λ κs qs h a. ((κs .1, qs .1, tt, (h, a), (value device h ∷ [], values κs params a)), tt);
+      args = λ κs qs h a. refl;
+      asks = λ κs qs h a. asks-nothing 𝓤 _;
+      gives = λ κs qs h a v. id⊢ 𝓤 _;
+      shows = λ κs x a g r ws told. factI 𝓤 _ (emp 𝓤) (ap (λ (y : RunAnswer). y .code) told, ap (λ (y : RunAnswer). y .device) told);
+    }

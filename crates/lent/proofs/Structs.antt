@@ -1,0 +1,46 @@
+-- The device as the struct that is lent, and where the answers of its calls have it and their bytes.
+use mathlib.Core.Path.{refl}
+use Rattle.machine.proofs.Device as Device
+use Rattle.machine.proofs.Device.Laws as Device′
+use Rattle.machine.proofs.Answer as Answer
+use Rattle.machine.proofs.Answer.Laws as Answer′
+use Rattle.machine.proofs.RunAnswer as RunAnswer
+use Rattle.machine.proofs.RunAnswer.Laws as RunAnswer′
+use Rattle.machine.proofs.CycleAnswer as CycleAnswer
+use Rattle.machine.proofs.CycleAnswer.Laws as CycleAnswer′
+use Rattle.machine.proofs.TakeAnswer as TakeAnswer
+use Rattle.machine.proofs.TakeAnswer.Laws as TakeAnswer′
+use Rattle.lent.proofs.Lent.{Struct, Carries, Byte}
+
+abbrev pub device : Struct
+device = record { type = Device.the-type; laws = Device′.the-laws; plains = Device′.the-plain }
+
+abbrev pub answer-carries : Carries device Answer.the-type Answer′.the-laws 1
+answer-carries = record { struct = λ r. r .device; offset = 8; found = refl; held = λ r. refl; owns = λ r known. known .1 .0 }
+
+abbrev pub run-answer-carries : Carries device RunAnswer.the-type RunAnswer′.the-laws 1
+run-answer-carries = record { struct = λ r. r .device; offset = 8; found = refl; held = λ r. refl; owns = λ r known. known .1 .0 }
+
+abbrev pub cycle-answer-carries : Carries device CycleAnswer.the-type CycleAnswer′.the-laws 2
+cycle-answer-carries = record { struct = λ r. r .device; offset = 8; found = refl; held = λ r. refl; owns = λ r known. known .1 .1 .0 }
+
+abbrev pub take-answer-carries : Carries device TakeAnswer.the-type TakeAnswer′.the-laws 2
+take-answer-carries = record { struct = λ r. r .device; offset = 8; found = refl; held = λ r. refl; owns = λ r known. known .1 .1 .0 }
+
+abbrev pub answer-code : Byte Answer.the-type Answer′.the-laws 0
+answer-code = record { byte = λ r. r .code; offset = 0; found = refl; held = λ r. refl; fits = λ r known. known .0 .1 }
+
+abbrev pub run-code : Byte RunAnswer.the-type RunAnswer′.the-laws 0
+run-code = record { byte = λ r. r .code; offset = 0; found = refl; held = λ r. refl; fits = λ r known. known .0 .1 }
+
+abbrev pub cycle-code : Byte CycleAnswer.the-type CycleAnswer′.the-laws 0
+cycle-code = record { byte = λ r. r .code; offset = 0; found = refl; held = λ r. refl; fits = λ r known. known .0 .1 }
+
+abbrev pub cycle-line : Byte CycleAnswer.the-type CycleAnswer′.the-laws 1
+cycle-line = record { byte = λ r. r .line; offset = 1; found = refl; held = λ r. refl; fits = λ r known. known .1 .0 .1 }
+
+abbrev pub take-code : Byte TakeAnswer.the-type TakeAnswer′.the-laws 0
+take-code = record { byte = λ r. r .code; offset = 0; found = refl; held = λ r. refl; fits = λ r known. known .0 .1 }
+
+abbrev pub take-vector : Byte TakeAnswer.the-type TakeAnswer′.the-laws 1
+take-vector = record { byte = λ r. r .vector; offset = 1; found = refl; held = λ r. refl; fits = λ r known. known .1 .0 .1 }
