@@ -1,9 +1,9 @@
--- `c51_lent::c51_read` answers the numbers of the plain machine's read: by cases of the answer of `c51_access::read`.
+-- `c51_read` answers the numbers of the plain machine's read: by cases of the answer of `c51_access::read`.
 use mathlib.Core.Path.{sym}
 use borrow.Author.Needs.{needs}
-use Rattle.c51_lent.specs.Answers.{valueAnswer}
-use Rattle.c51_lent.proofs.c51_read.Statement.{statement}
-use Rattle.c51_lent.proofs.c51_read.Tie as tie
+use Rattle.c51_read.specs.Value.{valueAnswer}
+use Rattle.c51_read.proofs.c51_read.Statement.{statement}
+use Rattle.c51_read.proofs.c51_read.Tie as tie
 
 returns : tie.Need-returns
 unfolding valueAnswer

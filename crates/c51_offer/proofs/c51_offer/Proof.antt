@@ -1,9 +1,9 @@
--- `c51_lent::c51_offer` answers the numbers of the plain machine's offer: by cases of the answer of `c51_interrupt::offer`.
+-- `c51_offer` answers the numbers of the plain machine's offer: by cases of the answer of `c51_interrupt::offer`.
 use mathlib.Core.Path.{sym}
 use borrow.Author.Needs.{needs}
-use Rattle.c51_lent.specs.Answers.{offeredAnswer}
-use Rattle.c51_lent.proofs.c51_offer.Statement.{statement}
-use Rattle.c51_lent.proofs.c51_offer.Tie as tie
+use Rattle.c51_offer.specs.Offered.{offeredAnswer}
+use Rattle.c51_offer.proofs.c51_offer.Statement.{statement}
+use Rattle.c51_offer.proofs.c51_offer.Tie as tie
 
 enum-told : tie.Need-enum-told
 enum-told c = search needs

@@ -1,4 +1,4 @@
--- `c51_lent::c51_write` meets its contract: the walk of `lent` around `c51_access::write`.
+-- `c51_write` meets its contract: the walk of `lent` around `c51_access::write`.
 use mathlib.Core.Path.{_≡_, refl, ap}
 use mathlib.Core.List.{[], _∷_, List}
 use mir.Syntax.{w8}
@@ -14,10 +14,10 @@ use Rattle.c51_access.proofs.write.Symbol.{name as #c51-access·write}
 use Rattle.c51_access.proofs.write.Met as write-thm
 use Rattle.lent.proofs.Lent.{value, in-field, one-byte, number, Passed, values, in-order, asks-nothing, exported}
 use Rattle.lent.proofs.Structs.{device, answer-carries, answer-code}
-use Rattle.c51_lent.proofs.c51_write.Key.{name as #c51-lent·c51-write}
-use Rattle.c51_lent.proofs.c51_write as lent
-use Rattle.c51_lent.proofs.c51_write.Statement as stated
-use Rattle.c51_lent.proofs.c51_write.Code as code
+use Rattle.c51_write.proofs.c51_write.Key.{name as #c51-write·c51-write}
+use Rattle.c51_write.proofs.c51_write as lent
+use Rattle.c51_write.proofs.c51_write.Statement as stated
+use Rattle.c51_write.proofs.c51_write.Code as code
 
 abbrev params : List (Passed 1)
 params = number w8 ∷ number w8 ∷ []
@@ -25,7 +25,7 @@ params = number w8 ∷ number w8 ∷ []
 pub c51-write-spec : {M : Type 1} → stated.statement M
 unfolding code.routine
 c51-write-spec 𝓤 H 𝓜 𝓖 𝓡 =
-    exported 𝓤 H 𝓜 𝓖 𝓡 code.env #c51-lent·c51-write (in-field 1 answer-carries) (in-order params R.mir) (one-byte 0 answer-code) #c51-access·write (code.unfolded 𝓤 H 𝓜 𝓡) (lent.clauses 𝓤 H (𝓖 .A) (𝓜 .mem) (𝓡 .run))
+    exported 𝓤 H 𝓜 𝓖 𝓡 code.env #c51-write·c51-write (in-field 1 answer-carries) (in-order params R.mir) (one-byte 0 answer-code) #c51-access·write (code.unfolded 𝓤 H 𝓜 𝓡) (lent.clauses 𝓤 H (𝓖 .A) (𝓜 .mem) (𝓡 .run))
     (tripleOf 𝓤 H (𝓖 .A) write.signature (write.spec 𝓤 H (𝓖 .A) (𝓜 .mem) (𝓡 .run))) write-def.routine code.calls-c51-access·write (write-thm.met 𝓤 H 𝓜 𝓖 𝓡)
     record {
       Told = λ κs h a r ws. r ≡ writeAnswer h (a .0) (a .1 .0);
