@@ -40,23 +40,28 @@ timer2-after-requires c κs = let a = c .before .before .before .before .before 
 
 -- the steps up to the cycle number: whatever times are put beside them, if they are those after the cycle, the whole is
 module _ (n : tie.After-wrapping-add-u64) where
+  abbrev u : tie.After-timer2-after
+  u = n .before .before .before .before
+
   abbrev device : Device
-  device = n .before .before .before .before .before .before .before .before .before .before .args .d
+  device = u .before .before .before .before .before .before .args .d
 
   abbrev pins : ℕ
-  pins = n .before .before .before .before .before .before .before .before .before .before .args .pins
+  pins = u .before .before .before .before .before .before .args .pins
 
   abbrev serial : Serial
-  serial = n .before .before .before .before .before .before .serial-step .result
+  serial = u .before .before .serial-step .result
 
   abbrev timers : Timers
-  timers = n .before .before .before .before .before .timers-after .result
+  timers = u .before .timers-after .result
 
   abbrev timer2 : Timer2
-  timer2 = n .before .before .before .before .timer2-after .result
+  timer2 = u .timer2-after .result
 
   abbrev left : FlagTimes → Device
-  left = with-all device timers timer2 serial (n .before .before .seen-of .result) (n .before .before .before .flagged .result) (n .before .levels-of .result) (n .wrapping-add-u64 .result)
+  left =
+      with-all device timers timer2 serial (n .before .before .seen-of .result) (n .before .before .before .flagged .result)
+      (n .before .levels-of .result) (n .wrapping-add-u64 .result)
 
   made : {times : FlagTimes} → times ≡ times-after device (n .wrapping-add-u64 .result) (timers .tcon) (serial .scon) (timer2 .t2con)
       → left times ≡ steps device pins
@@ -64,7 +69,6 @@ module _ (n : tie.After-wrapping-add-u64) where
       let l = n .before in
       let g = l .before in
       let p = g .before in
-      let u = p .before in
       let t = u .before in
       let s = t .before in
       let k = s .before in
