@@ -232,6 +232,20 @@ typedef struct {
     uint64_t at;
 } c51_look_answer;
 
+/* The overflows of each timer in the cycles of a jump or a trace run: all 0 in power-down, and where it has no cycles. They
+ * never wrap, a run having at most C51_MAX_CYCLES cycles. A single cycle does not answer them; a jump of 1 does. */
+typedef struct {
+    uint64_t timer0; /* in mode 3 those of TL0 and those of TH0, so that a cycle may add 2 */
+    uint64_t timer1; /* also those that set no flag, where Timer 0 is in mode 3 */
+    uint64_t timer2; /* up to 6 a cycle as a baud rate generator; a reload by T2EX is none; always 0 on kind 51 */
+} c51_totals;
+
+/* A jump or a trace run: the overflows in its cycles. */
+typedef struct {
+    uint8_t code;
+    c51_totals totals;
+} c51_run_answer;
+
 /* ---------------------------------------------------------------- calls that alter a device in place
  * The pointer is not NULL, is aligned as the type is, and nothing else reads or writes the device during the call. */
 
@@ -244,12 +258,12 @@ c51_line_answer c51_cycle(c51_device *device, uint8_t pins);
 
 /* n cycles, 0 to C51_MAX_CYCLES, with one pin byte. A jump costs by its rounds: one for each busy cycle (an overflow, a frame under way, a
  * flag that changes) and one for each quiet run between them; 2^40 busy cycles take about a day. Refusals: 1, 4, 5. */
-uint8_t c51_jump(c51_device *device, uint8_t pins, uint64_t n);
+c51_run_answer c51_jump(c51_device *device, uint8_t pins, uint64_t n);
 
 /* Runs a trace of count entries, checked whole before it runs: the pin byte in the top 8 bits of an entry, 1 to
  * 16,777,215 cycles in the other 24. entries points to count numbers and is never NULL, even where count is 0.
  * Refusals: 1, 5, 4, 8. */
-uint8_t c51_trace(c51_device *device, const uint32_t *entries, size_t count);
+c51_run_answer c51_trace(c51_device *device, const uint32_t *entries, size_t count);
 
 /* Takes the interrupt that is offered: its level is in service, its bit leaves seen and polled, TF0, TF1 or an edge-triggered
  * IE0 or IE1 is cleared, and so is IDL. Refusals: 1, 10, 6. */
@@ -284,18 +298,19 @@ uint8_t c51_accepts(c51_device device);
 /* ---------------------------------------------------------------- a whole list of calls at once */
 
 #define C51_CALL_WORDS 3    /* a call: its number, and two arguments */
-#define C51_ANSWER_WORDS 3  /* an answer: its code, how many numbers it gives or C51_NONE, and the number or 0 */
+#define C51_ANSWER_WORDS 5  /* an answer: its code, how many numbers it gives or C51_NONE, and the numbers, 0 past those given */
 #define C51_NONE UINT64_MAX /* an offer, a look ahead or a wake look that passed and found none */
 
-/* The calls by number, each with its arguments and with the number that it gives, where it gives one. Of a kind, an
+/* The calls by number, each with its arguments and with the numbers that it gives, where it gives any. Of a kind, an
  * address, a value and a pin byte the low 8 bits count; an argument that a call does not have may be anything. */
 enum {
     C51_CALL_RESET = 0,  /* kind */
     C51_CALL_READ = 1,   /* address; gives the register */
     C51_CALL_WRITE = 2,  /* address, value */
     C51_CALL_CYCLE = 3,  /* pins; gives the output line */
-    C51_CALL_JUMP = 4,   /* pins, n */
-    C51_CALL_TRACE = 5,  /* start, end: entries[start] to entries[end - 1]; none where these are not in order or not in range */
+    C51_CALL_JUMP = 4,   /* pins, n; gives three, the totals of Timers 0, 1 and 2 */
+    C51_CALL_TRACE = 5,  /* start, end: entries[start] to entries[end - 1], none where these are not in order or not in range;
+                          * gives three, as a jump does */
     C51_CALL_LOOK = 6,   /* pins, n; gives the cycle, or C51_NONE */
     C51_CALL_OFFER = 7,  /* gives the vector, or C51_NONE */
     C51_CALL_TAKE = 8,   /* gives the vector */
@@ -304,7 +319,7 @@ enum {
 };
 
 /* Runs calls one after the other, each on the device as the one before left it, and writes down the answer to each.
- * A refused call that would give a number gives 0; it leaves the device, but a refused reset leaves a record all
+ * A refused call gives 0 for each number that it would give; it leaves the device, but a refused reset leaves a record all
  * zero. The lengths count words: as many calls run as both calls and answers have whole rows for, and what lies past
  * them in answers stays as it was. Each pointer is aligned as its type is, points to as many numbers as its length
  * says and is never NULL, even where that is 0. The device is as for the calls in place, and answers overlaps
@@ -400,7 +415,7 @@ typedef struct {
 typedef char c53_interval_layout[sizeof(c53_interval) == 60 && offsetof(c53_counter, latch) == 18 ? 1 : -1];
 typedef char c51_board_layout[sizeof(c51_board) == 192 && offsetof(c51_board, interval) == 128 ? 1 : -1];
 
-/* Pulses, and a jump of the board: the outputs as they leave them. */
+/* Pulses: the outputs as they leave them. */
 typedef struct {
     uint8_t code;
     uint8_t outputs;
@@ -412,6 +427,13 @@ typedef struct {
     uint8_t line;
     uint8_t outputs;
 } c51_board_answer;
+
+/* A jump of the board: the outputs as it leaves them, and the overflows in its cycles. */
+typedef struct {
+    uint8_t code;
+    uint8_t outputs;
+    c51_totals totals;
+} c51_board_jump_answer;
 
 /* ---------------------------------------------------------------- calls of the 82C53; a pointer is as for the calls in place */
 
@@ -445,7 +467,7 @@ uint8_t c53_accepts(c53_interval interval);
 c51_board_answer c51_board_cycle(c51_board *board, uint8_t pins, uint8_t gates);
 
 /* n of them, 0 to C51_MAX_CYCLES, with one pin byte and one gate byte. It costs as c51_jump does. Refusals: 1 and 4 as above, 5. */
-c53_outputs_answer c51_board_jump(c51_board *board, uint8_t pins, uint8_t gates, uint64_t n);
+c51_board_jump_answer c51_board_jump(c51_board *board, uint8_t pins, uint8_t gates, uint64_t n);
 
 /* ---------------------------------------------------------------- from a wanted speed to a reload */
 

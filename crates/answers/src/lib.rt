@@ -8,6 +8,7 @@ use machine::CycleAnswer;
 use machine::Device;
 use machine::RunAnswer;
 use machine::TakeAnswer;
+use machine::Totals;
 use machine::refusals::PASSED;
 
 // Kind 51 or 52.
@@ -70,15 +71,17 @@ pub fn refuse_run(code: u8, d: Device) -> RunAnswer
 {
     RunAnswer {
         code: code,
+        totals: totals::none(),
         device: d,
     }
 }
 
-pub fn passed_run(d: Device) -> RunAnswer
-    ensures { λ r. ⌜ r ≡ Machine.passedRun d ⌝ }
+pub fn passed_run(t: Totals, d: Device) -> RunAnswer
+    ensures { λ r. ⌜ r ≡ Machine.passedRun t d ⌝ }
 {
     RunAnswer {
         code: PASSED,
+        totals: t,
         device: d,
     }
 }

@@ -1,5 +1,5 @@
 -- The board's answers from those of its chips: by cases of what each chip refuses, and n cycles of the board by induction.
-use mathlib.Core.Path.{_≡_, refl}
+use mathlib.Core.Path.{_≡_, refl, ap}
 use mathlib.Core.Bool.{cond}
 use Prim.Native.Nat.{ℕ, zero, suc}
 use lib.Dec.{eqb, leb}
@@ -8,6 +8,8 @@ use Rattle.machine.specs.declared.RunAnswer.{RunAnswer}
 use Rattle.machine.specs.Record.{pinsOk}
 use Rattle.machine.specs.Record as Device
 use Rattle.machine.specs.Cycle as Chip
+use Rattle.machine.specs.Totals.{added, totalsNext}
+use Rattle.machine.specs.Totals as Chip″
 use Rattle.machine.specs.Calls.{longest, cyclesFault}
 use Rattle.machine.specs.Calls as Chip′
 use Rattle.machine.proofs.Choices.{by-test}
@@ -19,7 +21,7 @@ use Rattle.interval.specs.Calls as Interval′
 use Rattle.board.specs.declared.Board.{Board}
 use Rattle.board.specs.declared.BoardCycleAnswer.{BoardCycleAnswer}
 use Rattle.board.specs.declared.BoardJumpAnswer.{BoardJumpAnswer}
-use Rattle.board.specs.Board.{accepted, cycle, cycles, refuseCycle, cycleAnswer, refuseJump, jumpAnswer}
+use Rattle.board.specs.Board.{accepted, cycle, cycles, totals, refuseCycle, cycleAnswer, refuseJump, jumpAnswer}
 use Rattle.board.specs.Joined.{lower}
 
 -- n cycles of the board are n of the chip and n pulses
@@ -28,6 +30,12 @@ pub cycles-each : (n pins gates : ℕ) (b : Board)
 unfolding cycles cycle Chip.cycles pulsesAll
 cycles-each zero pins gates b = refl
 cycles-each (suc n) pins gates b = cycles-each n pins gates (cycle pins gates b)
+
+-- and their overflows the chip's
+totals-each : (n pins gates : ℕ) (b : Board) → totals n pins gates b ≡ Chip″.totals n pins (b .device)
+unfolding totals cycle Chip″.totals
+totals-each zero pins gates b = refl
+totals-each (suc n) pins gates b = ap (added (totalsNext pins (b .device))) (totals-each n pins gates (cycle pins gates b))
 
 module _ (b : Board) (pins gates : ℕ) where
   -- what a cycle gives of both chips
@@ -53,7 +61,7 @@ module _ (b : Board) (pins gates : ℕ) where
 
   module _ (n : ℕ) where
     abbrev bothJumped : RunAnswer → PulseAnswer → BoardJumpAnswer
-    bothJumped x y = record { code = 0; outputs = y .outputs; board = record { device = x .device; interval = y .interval } }
+    bothJumped x y = record { code = 0; outputs = y .outputs; totals = x .totals; board = record { device = x .device; interval = y .interval } }
 
     -- refused by the 82C53, and then by the lower number of it and of a jump of no cycles; or by the chip; or both
     abbrev joinedJump : PulseAnswer → RunAnswer → RunAnswer → BoardJumpAnswer
@@ -68,7 +76,7 @@ module _ (b : Board) (pins gates : ℕ) where
         (λ d. by-test (Interval.accepted (b .interval))
         (λ i. by-test (pinsOk pins)
         (λ p. by-test (gatesOk gates)
-        (λ g. by-test (leb n longest) (λ l. simp (d, i, p, g, l, cycles-each n pins gates b)) (λ l. simp (d, i, p, g, l)))
+        (λ g. by-test (leb n longest) (λ l. simp (d, i, p, g, l, cycles-each n pins gates b, totals-each n pins gates b)) (λ l. simp (d, i, p, g, l)))
         (λ g. simp (d, i, p, g)))
         (λ p. by-test (gatesOk gates)
         (λ g. by-test (leb n longest) (λ l. simp (d, i, p, g, l)) (λ l. simp (d, i, p, g, l)))

@@ -1,5 +1,5 @@
 -- Document 02, request Three, the board that has both chips: the 82C53 is clocked once a machine cycle. A jump ends as pulse by pulse does.
--- Refused by 1 for either record, then by 4 for the pin byte or the gate byte, then by 5; a refusal leaves both chips as given. Power-down
+-- Request Seven: it answers the chip's overflow totals. Refused by 1 for either record, then by 4 for the pin byte or the gate byte, then by 5; a refusal leaves both chips as given. Power-down
 -- stops the chip, whose cycle then leaves it as it is, and not the 82C53.
 use Prim.Native.Nat.{ℕ, zero, suc}
 use mathlib.Core.Bool.{Bool, _&&_}
@@ -8,7 +8,9 @@ use Rattle.machine.specs.Record.{pinsOk}
 use Rattle.machine.specs.Record as Device
 use Rattle.machine.specs.Serial.{lineOf}
 use Rattle.machine.specs.Cycle.{cycleOf}
+use Rattle.machine.specs.Totals.{noTotals, added, totalsNext}
 use Rattle.machine.specs.Calls.{unless, longest}
+use Rattle.machine.specs.declared.Totals.{Totals}
 use Rattle.interval.specs.Interval.{outputs, gatesOk, pulseAll}
 use Rattle.interval.specs.Interval as Interval
 use Rattle.board.specs.declared.Board.{Board}
@@ -32,6 +34,11 @@ unfoldable pub cycles : ℕ → ℕ → ℕ → Board → Board
 cycles zero pins gates b = b
 cycles (suc n) pins gates b = cycles n pins gates (cycle pins gates b)
 
+-- the overflows of the chip's timers in them
+unfoldable pub totals : ℕ → ℕ → ℕ → Board → Totals
+totals zero pins gates b = noTotals
+totals (suc n) pins gates b = added (totalsNext pins (b .device)) (totals n pins gates (cycle pins gates b))
+
 -- Cycle: it answers the line and the outputs as it leaves them
 abbrev pub refuseCycle : ℕ → Board → BoardCycleAnswer
 refuseCycle n b = record { code = n; line = 0; outputs = 0; board = b }
@@ -45,16 +52,16 @@ cycleAnswer b pins gates =
     (unless (bytesOk pins gates) (refuseCycle 4 b)
     (passedCycle (cycle pins gates b)))
 
--- Jump: n cycles of the board; it answers the outputs
+-- Jump: n cycles of the board; it answers the overflow totals and the outputs
 abbrev pub refuseJump : ℕ → Board → BoardJumpAnswer
-refuseJump n b = record { code = n; outputs = 0; board = b }
+refuseJump n b = record { code = n; outputs = 0; totals = noTotals; board = b }
 
-abbrev pub passedJump : Board → BoardJumpAnswer
-passedJump b = record { code = 0; outputs = outputs (b .interval); board = b }
+abbrev pub passedJump : Totals → Board → BoardJumpAnswer
+passedJump t b = record { code = 0; outputs = outputs (b .interval); totals = t; board = b }
 
 unfoldable pub jumpAnswer : Board → ℕ → ℕ → ℕ → BoardJumpAnswer
 jumpAnswer b pins gates n =
     unless (accepted b) (refuseJump 1 b)
     (unless (bytesOk pins gates) (refuseJump 4 b)
     (unless (leb n longest) (refuseJump 5 b)
-    (passedJump (cycles n pins gates b))))
+    (passedJump (totals n pins gates b) (cycles n pins gates b))))

@@ -1,8 +1,8 @@
 -- Document 02, request Three: a list of calls on the board, of either chip or of both, the answers to it and both chips at its end.
 use Prim.Native.Nat.{ℕ}
-use mathlib.Core.List.{List, [], _∷_}
+use mathlib.Core.List.{List, [], _∷_, _++_}
 use Rattle.machine.specs.Calls.{resetAnswer}
-use Rattle.machine.specs.Lists.{Reply, says, number}
+use Rattle.machine.specs.Lists.{Reply, says, listed}
 use Rattle.machine.specs.Lists.Value.{numbers}
 use Rattle.machine.specs.Lists as Chip
 use Rattle.interval.specs.Interval.{resetOf}
@@ -30,7 +30,7 @@ abbrev pub replyOfCycle : BoardCycleAnswer → Reply
 replyOfCycle a = says (a .code) (numbers (a .line ∷ a .outputs ∷ []))
 
 abbrev pub replyOfJump : BoardJumpAnswer → Reply
-replyOfJump a = says (a .code) (number (a .outputs))
+replyOfJump a = says (a .code) (numbers (listed (a .totals) ++ a .outputs ∷ []))
 
 -- one call: a chip's own calls leave the other chip as it is
 unfoldable pub play : Call → Board → Played Board

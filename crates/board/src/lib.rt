@@ -5,6 +5,7 @@ ghost use Rattle.board.specs.Board as Plain;
 ghost use Rattle.board.specs.Joined as Joined;
 use interval::Interval;
 use machine::Device;
+use machine::Totals;
 use machine::refusals::PASSED;
 
 // The record of both chips.
@@ -22,10 +23,11 @@ pub struct BoardCycleAnswer {
     pub board: Board,
 }
 
-// The answer of a jump: 0 and the outputs of the 82C53, or the refusal's number and 0; and the board.
+// The answer of a jump: 0, the outputs of the 82C53 and the chip's overflow totals, or the refusal's number and zeros; and the board.
 pub struct BoardJumpAnswer {
     pub code: u8,
     pub outputs: u8,
+    pub totals: Totals,
     pub board: Board,
 }
 
@@ -47,6 +49,7 @@ fn refuse_jump(code: u8, b: Board) -> BoardJumpAnswer
     BoardJumpAnswer {
         code: code,
         outputs: 0,
+        totals: totals::none(),
         board: b,
     }
 }
@@ -105,11 +108,13 @@ pub fn jump(b: Board, pins: u8, gates: u8, n: u64) -> BoardJumpAnswer
     if jumped.code != PASSED {
         return refuse_jump(jumped.code, b);
     }
+    let totals = jumped.totals;
     let jumped_device = jumped.device;
     let pulsed_interval = pulsed.interval;
     BoardJumpAnswer {
         code: PASSED,
         outputs: pulsed.outputs,
+        totals: totals,
         board: Board {
             device: jumped_device,
             interval: pulsed_interval,

@@ -3,13 +3,24 @@
 ghost use mathlib.Core.Path.{_≡_};
 ghost use Rattle.machine.specs.Calls as Machine;
 use machine::Device;
+use machine::Totals;
+
+// A jump's code and its overflow totals.
+#[repr(C)]
+pub struct Jumped {
+    pub code: u8,
+    pub totals: Totals,
+}
 
 // n cycles with one pin byte: 1, 4, 5.
 #[no_mangle]
-pub extern "C" fn c51_jump(d: &mut Device, pins: u8, n: u64) -> u8
-    ensures { λ r. ⌜ (r ≡ Machine.jumpAnswer (now (d .entry)) pins n .code) × (now (d .exit) ≡ Machine.jumpAnswer (now (d .entry)) pins n .device) ⌝ }
+pub extern "C" fn c51_jump(d: &mut Device, pins: u8, n: u64) -> Jumped
+    ensures { λ r. ⌜ (r .code ≡ Machine.jumpAnswer (now (d .entry)) pins n .code) × ((r .totals ≡ Machine.jumpAnswer (now (d .entry)) pins n .totals) × (now (d .exit) ≡ Machine.jumpAnswer (now (d .entry)) pins n .device)) ⌝ }
 {
     let jumped = c51_run::jump(*d, pins, n);
     *d = jumped.device;
-    jumped.code
+    Jumped {
+        code: jumped.code,
+        totals: jumped.totals,
+    }
 }

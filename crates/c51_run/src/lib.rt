@@ -8,6 +8,7 @@ use answers::passed_run;
 use answers::pins_ok;
 use answers::refuse_cycle;
 use answers::refuse_run;
+use cycle::Run;
 use machine::CycleAnswer;
 use machine::Device;
 use machine::LONGEST;
@@ -31,7 +32,12 @@ pub fn cycle(d: Device, pins: u8) -> CycleAnswer
     if laws::powered_down(d.pcon) {
         return passed_cycle(d);
     }
-    passed_cycle(cycle::cycle_once(d, cycle::pins_of(d.kind, pins)))
+    let from = Run {
+        totals: totals::none(),
+        device: d,
+    };
+    let r = cycle::cycle_once(from, cycle::pins_of(d.kind, pins));
+    passed_cycle(r.device)
 }
 
 // The number by which n cycles with one pin byte are refused, of a jump and of a look, or 0.
@@ -50,7 +56,7 @@ fn cycles_fault(d: Device, pins: u8, n: u64) -> u8
     PASSED
 }
 
-// A jump of n cycles with one pin byte.
+// A jump of n cycles with one pin byte, and the overflows in them.
 pub fn jump(d: Device, pins: u8, n: u64) -> RunAnswer
     ensures { λ r. ⌜ r ≡ Machine.jumpAnswer d pins n ⌝ }
 {
@@ -58,7 +64,12 @@ pub fn jump(d: Device, pins: u8, n: u64) -> RunAnswer
     if bad != PASSED {
         return refuse_run(bad, d);
     }
-    passed_run(jump::advance(d, cycle::pins_of(d.kind, pins), n))
+    let from = Run {
+        totals: totals::none(),
+        device: d,
+    };
+    let r = jump::advance(from, cycle::pins_of(d.kind, pins), n);
+    passed_run(r.totals, r.device)
 }
 
 // A trace run, each entry a pin byte on top and cycles in the low 24 bits; the entries are judged whole, in an order of their own.
@@ -72,7 +83,8 @@ pub fn trace(d: Device, entries: &[u32]) -> RunAnswer
     if fault != PASSED {
         return refuse_run(fault, d);
     }
-    passed_run(traces::run_entries(d, entries))
+    let r = traces::run_entries(d, entries);
+    passed_run(r.totals, r.device)
 }
 
 // A look ahead over n cycles with one pin byte: the first in which a flag rises, or none.

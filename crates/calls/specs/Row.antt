@@ -79,10 +79,10 @@ callOf op first second lent =
 
 -- the numbers that an answer has room for, and its words: its code, how many numbers it gives or the mark of none, and the numbers
 abbrev pub mostNumbers : ℕ
-mostNumbers = 1
+mostNumbers = 3
 
 abbrev pub answerWords : ℕ
-answerWords = 3
+answerWords = 5
 
 abbrev pub noneMark : ℕ
 noneMark = 2 ^ 64 - 1

@@ -12,8 +12,8 @@ use machine::ReadAnswer;
 use machine::RunAnswer;
 use machine::TakeAnswer;
 
-// The words of an answer: its code, how many numbers it gives or NONE, and the number or 0.
-pub const ANSWER_WORDS: usize = 3;
+// The words of an answer: its code, how many numbers it gives or NONE, and the numbers, 0 past them.
+pub const ANSWER_WORDS: usize = 5;
 
 // The mark of an answer that says none.
 pub const NONE: u64 = 0xffff_ffff_ffff_ffff;
@@ -51,17 +51,24 @@ fn shown_plain(a: Answer) -> Shown
 {
     let e = a.device;
     Shown {
-        row: [a.code as u64, 0, 0],
+        row: [a.code as u64, 0, 0, 0, 0],
         device: e,
     }
 }
 
+// A jump or a trace run, which answers three numbers.
 fn shown_run(a: RunAnswer) -> Shown
     ensures { λ r. ⌜ r ≡ shownRun a ⌝ }
 {
     let e = a.device;
     Shown {
-        row: [a.code as u64, 0, 0],
+        row: [
+            a.code as u64,
+            3,
+            a.totals.timer0,
+            a.totals.timer1,
+            a.totals.timer2,
+        ],
         device: e,
     }
 }
@@ -72,7 +79,7 @@ fn shown_cycle(a: CycleAnswer) -> Shown
 {
     let e = a.device;
     Shown {
-        row: [a.code as u64, 1, a.line as u64],
+        row: [a.code as u64, 1, a.line as u64, 0, 0],
         device: e,
     }
 }
@@ -82,7 +89,7 @@ fn shown_take(a: TakeAnswer) -> Shown
 {
     let e = a.device;
     Shown {
-        row: [a.code as u64, 1, a.vector as u64],
+        row: [a.code as u64, 1, a.vector as u64, 0, 0],
         device: e,
     }
 }
@@ -93,11 +100,11 @@ fn shown_read(a: ReadAnswer, d: Device) -> Shown
 {
     match a {
         ReadAnswer::Refused(k) => Shown {
-            row: [k as u64, 1, 0],
+            row: [k as u64, 1, 0, 0, 0],
             device: d,
         },
         ReadAnswer::Value(v) => Shown {
-            row: [0, 1, v as u64],
+            row: [0, 1, v as u64, 0, 0],
             device: d,
         },
     }
@@ -108,15 +115,15 @@ fn shown_offer(a: OfferAnswer, d: Device) -> Shown
 {
     match a {
         OfferAnswer::Refused(k) => Shown {
-            row: [k as u64, 1, 0],
+            row: [k as u64, 1, 0, 0, 0],
             device: d,
         },
         OfferAnswer::Vector(v) => Shown {
-            row: [0, 1, v as u64],
+            row: [0, 1, v as u64, 0, 0],
             device: d,
         },
         OfferAnswer::Nothing => Shown {
-            row: [0, NONE, 0],
+            row: [0, NONE, 0, 0, 0],
             device: d,
         },
     }
@@ -127,15 +134,15 @@ fn shown_look(a: LookAnswer, d: Device) -> Shown
 {
     match a {
         LookAnswer::Refused(k) => Shown {
-            row: [k as u64, 1, 0],
+            row: [k as u64, 1, 0, 0, 0],
             device: d,
         },
         LookAnswer::At(k) => Shown {
-            row: [0, 1, k],
+            row: [0, 1, k, 0, 0],
             device: d,
         },
         LookAnswer::Nothing => Shown {
-            row: [0, NONE, 0],
+            row: [0, NONE, 0, 0, 0],
             device: d,
         },
     }

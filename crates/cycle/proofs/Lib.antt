@@ -1,4 +1,5 @@
 pub mod Levels
 pub mod Keeps
+pub mod Totals
 pub mod Heard
 pub mod Steps

@@ -4,11 +4,15 @@ ghost use mathlib.Core.Bool.{true};
 ghost use Prim.Native.Nat.{_<_};
 ghost use Rattle.machine.specs.Record.{accepted, pinsOf, levelsOf, levelsOk};
 ghost use Rattle.machine.specs.Cycle as Rule;
+ghost use Rattle.machine.specs.Totals.{added, byTimer};
+ghost use Rattle.totals.specs.Fit.{Low};
 use machine::Counted;
 use machine::Device;
+use machine::Overflows;
 use machine::Ticks;
 use machine::Timer2;
 use machine::Timers;
+use machine::Totals;
 use machine::places::ET2;
 use machine::places::IE0;
 use machine::places::IE1;
@@ -108,13 +112,33 @@ fn ticks_in(d: Device, c: Counted) -> Ticks
     )
 }
 
-// One cycle, steps 1 to 8, with the pin byte as the kind takes it, and then the times of the flags that rise in it, if one does.
-pub fn cycle_once(d: Device, pins: u8) -> Device
-    requires { ⌜ accepted d ≡ true ⌝ }
-    ensures { λ r. ⌜ r ≡ Rule.steps d pins ⌝ }
+// The overflows of a cycle with these counts.
+fn overflows_of(c: Counted) -> Overflows
+    ensures { λ r. ⌜ r ≡ Rule.overflowsOf c ⌝ }
 {
+    Overflows {
+        timer0: c.timers.overflow0,
+        th0: c.timers.overflow_th0,
+        timer1: c.timers.overflow1,
+        timer2: c.timer2.overflows,
+    }
+}
+
+// Cycles in a row: the overflows in them, added up, and the device after them.
+pub struct Run {
+    pub totals: Totals,
+    pub device: Device,
+}
+
+// One cycle more, steps 1 to 8, with the pin byte as the kind takes it, and then the times of the flags that rise in it, if one does.
+pub fn cycle_once(run: Run, pins: u8) -> Run
+    requires { ⌜ (accepted (run .device) ≡ true) × Low (run .totals) ⌝ }
+    ensures { λ r. ⌜ (r .totals ≡ added (run .totals) (byTimer (Rule.overflowsOf (Rule.counted (run .device) pins)))) × (r .device ≡ Rule.steps (run .device) pins) ⌝ }
+{
+    let d = run.device;
     let saved = d.levels;
     let c = counted(d, pins);
+    let sum = totals::added(run.totals, totals::by_timer(overflows_of(c)));
     let k = ticks_in(d, c);
     let s = serial::serial_step(k, (pins >> RXD) & 1, d.serial);
     let t = timers_after(saved, pins, c.timers.timers);
@@ -139,7 +163,10 @@ pub fn cycle_once(d: Device, pins: u8) -> Device
         s.scon,
         u.t2con,
     ) {
-        return e;
+        return Run {
+            totals: sum,
+            device: e,
+        };
     }
     let times = d.times;
     e.times = flags::times_after(
@@ -152,5 +179,8 @@ pub fn cycle_once(d: Device, pins: u8) -> Device
         number,
         times,
     );
-    e
+    Run {
+        totals: sum,
+        device: e,
+    }
 }

@@ -7,6 +7,7 @@ use mathlib.Core.Logic.{inl, inr}
 use native.Mathlib.Omega.{arith}
 use lib.Dec.{leb}
 use borrow.Author.Tests.{leb-true, leb-false}
+use Rattle.machine.specs.declared.Totals.{Totals}
 use Rattle.machine.specs.declared.Device.{Device}
 use Rattle.machine.specs.Record.{accepted}
 use Rattle.machine.specs.Cycle.{cycles}
@@ -22,7 +23,7 @@ use Rattle.jump.specs.declared.Round.{Round}
 use Rattle.jump.specs.Rounds.{Ready, usedIn, Crossed, RoundOf}
 use Rattle.jump.proofs.Keeps.{cycles-accepted}
 use Rattle.jump.proofs.Idles.{idle-rounds}
-use Rattle.jump.proofs.Rounds.{used-busy, used-quiet}
+use Rattle.jump.proofs.Rounds.{ran, used-busy, used-quiet}
 use Rattle.jump.proofs.one_round.Reads as one-round-reads
 
 module _ (pins left : ℕ) (d : Device) (a : accepted d ≡ true) (some : 1 ≤ left) (most : left ≤ longest) where
@@ -47,12 +48,13 @@ module _ (pins left : ℕ) (d : Device) (a : accepted d ≡ true) (some : 1 ≤ 
           })
 
   -- a round, and what a caller of one_round learns of it
-  pub crossed-round : (r : Round) → Crossed pins left d r → RoundOf pins left d (r .used)
-  crossed-round r c = subst (RoundOf pins left d) (sym (c .used)) used-round
+  pub crossed-round : (sum : Totals) (r : Round) → Crossed pins left (ran sum d) r → RoundOf pins left d (r .used)
+  crossed-round sum r c = subst (RoundOf pins left d) (sym (c .used)) used-round
 
-  pub round-promises : (m : ℕ) (r : Round) → one-round-reads.Learnt tt (d, (pins, (left, (m, tt)))) r (d, (pins, (left, (m, tt))))
+  pub round-promises : (sum : Totals) (m : ℕ) (r : Round)
+      → one-round-reads.Learnt tt (ran sum d, (pins, (left, (m, tt)))) r (ran sum d, (pins, (left, (m, tt))))
       → RoundOf pins left d (r .used)
-  round-promises m r c = crossed-round r c
+  round-promises sum m r c = crossed-round sum r c
 
   -- a quiet run to the end
   pub last-round : left ≤ room pins d → RoundOf pins left d left

@@ -1,16 +1,18 @@
--- Where Timer 1's reload is all that happens: the device after the cycles that are left, and each pass of that loop one round of the
--- jump; by the laws of the reload.
+-- Where Timer 1's reload is all that happens: the device after the cycles that are left, the overflows in them, and each pass of that loop
+-- one round of the jump; by the laws of the reload.
 use Prim.Native.Nat.{ℕ}
 use mathlib.Core.Path.{_≡_, sym, ap, _∙_}
 use mathlib.Core.Bool.{Bool, true}
 use Rattle.machine.specs.declared.Device.{Device}
 use Rattle.machine.specs.Record.{pinsOf}
 use Rattle.machine.specs.Cycle.{cycles}
+use Rattle.machine.specs.Totals.{totals}
 use Rattle.strides.specs.Stride.{usedOf}
 use Rattle.jump.specs.Rounds.{Ready, usedIn}
 use Rattle.record.proofs.Accepted.{ranges-of}
-use Rattle.reload.specs.Reload.{idlesAt, idleAt, clockingOf, idlingOf, idleCycles, usedIdling}
+use Rattle.reload.specs.Reload.{idlesAt, idleAt, clockingOf, idlingOf, idleCycles, usedIdling, idleTotals}
 use Rattle.reload.proofs.Runs.{idle-law, idle-room}
+use Rattle.reload.proofs.Totals.{idle-totals}
 
 module _ (pins : ℕ) (d : Device) (r : Ready pins d) {b : Bool} (q : b ≡ idlesAt pins d) (t : b ≡ true) where
   pub idles-here : idlesAt (pinsOf (d .kind) pins) d ≡ true
@@ -22,6 +24,10 @@ module _ (pins : ℕ) (d : Device) (r : Ready pins d) {b : Bool} (q : b ≡ idle
   -- the cycles that are left end here
   pub idle-on : (n : ℕ) {u v : Device} → u ≡ idleAt n pins d → cycles n pins d ≡ v → u ≡ v
   idle-on n e i = e ∙ (ap (λ (l : ℕ). idleAt n l d) (sym (r .taken)) ∙ (sym (law n) ∙ i))
+
+  -- with the overflows of Timer 1's counts over the stretch
+  pub idle-laps : (n : ℕ) → totals n pins d ≡ idleTotals n (d .timers)
+  idle-laps n = idle-totals n pins d (ranges-of d (r .good)) idles-here
 
   -- a pass of the loop over TL1, after n cycles, is a round of the jump
   pub idle-rounds : (n left : ℕ) → usedIdling left (idleCycles n (clockingOf pins d) (idlingOf d)) ≡ usedIn pins left (cycles n pins d)

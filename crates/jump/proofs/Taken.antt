@@ -1,16 +1,18 @@
--- The pin byte as the kind takes it stands for the one that is given: taking it again changes nothing, and cycles are the same with it;
--- by induction on the cycles.
+-- The pin byte as the kind takes it stands for the one that is given: taking it again changes nothing, and cycles and their overflows
+-- are the same with it; by induction on the cycles.
 use Prim.Native.Nat.{ℕ, zero, suc}
 use mathlib.Core.Path.{_≡_, refl, sym, ap, _∙_}
 use mathlib.Core.Bool.{Bool, true, false, cond}
 use native.Mathlib.Omega.{arith}
 use lib.Dec.{eqb}
+use Rattle.machine.specs.declared.Totals.{Totals}
 use Rattle.machine.specs.declared.Device.{Device}
 use Rattle.machine.specs.Bits.{setBit}
 use Rattle.machine.specs.Registers.{T2, T2EX}
 use Rattle.machine.specs.Power.{poweredDown}
 use Rattle.machine.specs.Record.{accepted, pinsOf}
-use Rattle.machine.specs.Cycle.{steps, cycleOf, cycles}
+use Rattle.machine.specs.Cycle.{counted, overflowsOf, steps, cycleOf, cycles}
+use Rattle.machine.specs.Totals.{noTotals, added, byTimer, totalsNext, totals}
 use Rattle.laws.proofs.Bits.{bit-set, bit-set-other, set-same}
 use Rattle.strides.proofs.Runs.{cycle-kind}
 use Rattle.jump.specs.Rounds.{Ready}
@@ -36,6 +38,11 @@ pub cycle-taken : (pins : ℕ) (d : Device) → cycleOf (pinsOf (d .kind) pins) 
 unfolding cycleOf
 cycle-taken pins d = ap (λ (l : ℕ). cond (poweredDown (d .pcon)) d (steps d l)) (pins-twice (d .kind) pins)
 
+next-taken : (pins : ℕ) (d : Device) → totalsNext (pinsOf (d .kind) pins) d ≡ totalsNext pins d
+unfolding totalsNext
+next-taken pins d =
+    ap (λ (l : ℕ). cond (poweredDown (d .pcon)) noTotals (byTimer (overflowsOf (counted d l)))) (pins-twice (d .kind) pins)
+
 -- what is made of the device after a cycle with the pin byte as its kind takes it, by what is made of it with the pin byte as it is
 pub taken-on : {A : Type 0} (f : ℕ → Device → A) (pins : ℕ) (d : Device)
     → f (pinsOf (cycleOf pins d .kind) pins) (cycleOf pins d) ≡ f pins (cycleOf pins d)
@@ -49,6 +56,13 @@ unfolding cycles
 cycles-taken zero pins d = refl
 cycles-taken (suc n) pins d = taken-on (cycles n) pins d (cycles-taken n pins (cycleOf pins d))
 
+totals-taken : (n pins : ℕ) (d : Device) → totals n (pinsOf (d .kind) pins) d ≡ totals n pins d
+unfolding totals
+totals-taken zero pins d = refl
+totals-taken (suc n) pins d =
+    ap (λ (t : Totals). added t (totals n (pinsOf (d .kind) pins) (cycleOf (pinsOf (d .kind) pins) d))) (next-taken pins d)
+    ∙ ap (added (totalsNext pins d)) (taken-on (totals n) pins d (totals-taken n pins (cycleOf pins d)))
+
 -- what is called with a pin byte as the kind takes it promises the same of the one that is given
 module _ (pins : ℕ) (d : Device) {l : ℕ} (e : l ≡ pinsOf (d .kind) pins) where
   pub ready-taken : accepted d ≡ true → Ready l d
@@ -56,3 +70,6 @@ module _ (pins : ℕ) (d : Device) {l : ℕ} (e : l ≡ pinsOf (d .kind) pins) w
 
   pub run-taken : (n : ℕ) {u : Device} → u ≡ cycles n l d → u ≡ cycles n pins d
   run-taken n c = c ∙ (ap (λ (p : ℕ). cycles n p d) e ∙ cycles-taken n pins d)
+
+  pub laps-taken : (n : ℕ) (sum : Totals) {t : Totals} → t ≡ added sum (totals n l d) → t ≡ added sum (totals n pins d)
+  laps-taken n sum c = c ∙ ap (added sum) (ap (λ (p : ℕ). totals n p d) e ∙ totals-taken n pins d)

@@ -6,8 +6,10 @@ use mathlib.Core.Logic.{_⊎_}
 use Rattle.machine.specs.declared.Device.{Device}
 use Rattle.machine.specs.Record.{accepted, pinsOf}
 use Rattle.machine.specs.Cycle.{cycles}
+use Rattle.machine.specs.Totals.{added, totals}
 use Rattle.strides.specs.Busy.{busy}
 use Rattle.strides.specs.Stride.{room, usedOf}
+use Rattle.cycle.specs.declared.Run.{Run}
 use Rattle.jump.specs.declared.Round.{Round}
 
 -- what cycles are made of: a record that is accepted, and a pin byte as its kind takes it
@@ -19,10 +21,11 @@ pub record Ready (pins : ℕ) (d : Device) : Type 0 where
 unfoldable pub usedIn : ℕ → ℕ → Device → ℕ
 usedIn pins left d = usedOf (room pins d) left
 
--- a round has just these cycles, and ends where they end
-pub record Crossed (pins left : ℕ) (d : Device) (r : Round) : Type 0 where
-  pub used : r .used ≡ usedIn pins left d
-  pub reaches : r .device ≡ cycles (r .used) pins d
+-- a round has just these cycles, adds their overflows, and ends where they end
+pub record Crossed (pins left : ℕ) (from : Run) (r : Round) : Type 0 where
+  pub used : r .used ≡ usedIn pins left (from .device)
+  pub laps : r .run .totals ≡ added (from .totals) (totals (r .used) pins (from .device))
+  pub reaches : r .run .device ≡ cycles (r .used) pins (from .device)
 
 -- Rounds as request Nine counts them: so many of the cycles that are left are one busy cycle, or a longest run of others
 

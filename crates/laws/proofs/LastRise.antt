@@ -9,6 +9,7 @@ use lib.Dec.{eqb, eqb→eq}
 use lib.ListN.{length, getD}
 use Rattle.machine.specs.declared.FlagTimes.{FlagTimes}
 use Rattle.machine.specs.declared.Device.{Device}
+use Rattle.machine.specs.declared.Totals.{Totals}
 use Rattle.machine.specs.declared.Answer.{Answer}
 use Rattle.machine.specs.declared.RunAnswer.{RunAnswer}
 use Rattle.machine.specs.declared.CycleAnswer.{CycleAnswer}
@@ -149,12 +150,13 @@ module _ (d : Device) where
     RecallsCycle a = Recalls (a .device .times) (cond (eqb (a .code) 0) new ms)
 
     -- refused by a number that is not 0
-    run-recalls : (fault : ℕ) (b : Bool) → eqb fault 0 ≡ b → RecallsRun (cond b (passedRun e) (refuseRun fault d))
-    run-recalls fault true f = q
-    run-recalls fault false f = rw f r
+    run-recalls : (t : Totals) (fault : ℕ) (b : Bool) → eqb fault 0 ≡ b → RecallsRun (cond b (passedRun t e) (refuseRun fault d))
+    run-recalls t fault true f = q
+    run-recalls t fault false f = rw f r
 
-    trace-answers : (fault : ℕ) → RecallsRun (cond (accepted d) (cond (eqb fault 0) (passedRun e) (refuseRun fault d)) (refuseRun 1 d))
-    trace-answers fault = chosen RecallsRun (accepted d) _ _ (run-recalls fault (eqb fault 0) refl) r
+    trace-answers : (t : Totals) (fault : ℕ)
+        → RecallsRun (cond (accepted d) (cond (eqb fault 0) (passedRun t e) (refuseRun fault d)) (refuseRun 1 d))
+    trace-answers t fault = chosen RecallsRun (accepted d) _ _ (run-recalls t fault (eqb fault 0) refl) r
 
     cycle-answers : (pins : ℕ) → RecallsCycle (cond (accepted d) (cond (pinsOk pins) (passedCycle e) (refuseCycle 4 d)) (refuseCycle 1 d))
     cycle-answers pins = chosen RecallsCycle (accepted d) _ _ (chosen RecallsCycle (pinsOk pins) _ _ q r) r
@@ -185,9 +187,9 @@ call-recalls (Call.write a v) d ms r = rw (write-keeps d a v) r
 call-recalls (Call.cycle pins) d ms r =
     cycle-answers d ms _ r (cycleOf pins d) (held-recalls 1 pins d ms r) pins
 call-recalls (Call.jump pins n) d ms r =
-    run-recalls d ms _ r (cycles n pins d) (held-recalls n pins d ms r) (cyclesFault d pins n) (eqb (cyclesFault d pins n) 0) refl
+    run-recalls d ms _ r (cycles n pins d) (held-recalls n pins d ms r) _ (cyclesFault d pins n) (eqb (cyclesFault d pins n) 0) refl
 call-recalls (Call.trace es) d ms r =
-    trace-answers d ms _ r (traceCycles es d) (trace-recalls es d ms r) (traceFault es)
+    trace-answers d ms _ r (traceCycles es d) (trace-recalls es d ms r) _ (traceFault es)
 call-recalls (Call.look pins n) d ms r = r
 call-recalls Call.offer d ms r = r
 call-recalls Call.take d ms r = rw (take-keeps d) r

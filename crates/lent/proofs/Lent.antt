@@ -242,7 +242,23 @@ pub record Result (R : Declared) (L : LL.Laws R) : Type 3 where
   pub evals : {M : Type 1} (𝓤 : URA M) (H : Heap 𝓤) (A : Atoms 𝓤) (W : Given 𝓤 H A) (E : Env 𝓤 H) (i l : ℕ) → spotOf 𝓤 H E i ≡ (layout (shape R), l, zero) → (r : R .D) (Γ : List (Item 𝓤))
       → Rv (Go {0}) W (‵ (Holds (layout (shape R)) l (vstruct (parts R L r))) ∷ Γ) E (value i) (val r)
 
--- a byte that an answer has in its field k
+-- a part of an answer, in its field k: a number or a struct, and what whoever holds the answer knows of it
+pub record Piece (R : Declared) (L : LL.Laws R) (k : ℕ) : Type 1 where
+  pub ty : Ty
+  pub val : R .D → Val
+  pub offset : ℕ
+  pub found : fieldOf (layout (shape R)) k ≡ just (ty, offset)
+  pub held : (r : R .D) → getV (parts R L r) k ≡ val r
+  pub Fits : R .D → Type 0
+  pub fits : (r : R .D) → Known R L r → Fits r
+
+module _ {R : Declared} {L : LL.Laws R} {k : ℕ} (c : Piece R L k) {M : Type 1} (𝓤 : URA M) (H : Heap 𝓤) (A : Atoms 𝓤) (W : Given 𝓤 H A) (E : Env 𝓤 H) (i l : ℕ) (e : spotOf 𝓤 H E i ≡ (layout (shape R), l, zero)) (r : R .D) (Γ : List (Item 𝓤)) where
+  pub piece-of : Opd (Go {0}) W (‵ (Holds (layout (shape R)) l (vstruct (parts R L r))) ∷ Γ) E (copy (place i (field k ∷ []))) (c .val r)
+  piece-of =
+      load ! (at-local ! e (fld ! (c .found) (stop !)))
+      (subst (λ (u : Val). Reads (Go {0}) W (‵ (Holds (layout (shape R)) l (vstruct (parts R L r))) ∷ Γ) (c .ty) l (zero + c .offset) u) (c .held r) (look-in ! 0 (sub ! k (c .found) (whole !))))
+
+-- a byte
 pub record Byte (R : Declared) (L : LL.Laws R) (k : ℕ) : Type 0 where
   pub byte : R .D → ℕ
   pub offset : ℕ
@@ -250,11 +266,8 @@ pub record Byte (R : Declared) (L : LL.Laws R) (k : ℕ) : Type 0 where
   pub held : (r : R .D) → getV (parts R L r) k ≡ vint w8 (byte r)
   pub fits : (r : R .D) → Known R L r → byte r < 2 ^ 8
 
-module _ {R : Declared} {L : LL.Laws R} {k : ℕ} (c : Byte R L k) {M : Type 1} (𝓤 : URA M) (H : Heap 𝓤) (A : Atoms 𝓤) (W : Given 𝓤 H A) (E : Env 𝓤 H) (i l : ℕ) (e : spotOf 𝓤 H E i ≡ (layout (shape R), l, zero)) (r : R .D) (Γ : List (Item 𝓤)) where
-  pub byte-of : Opd (Go {0}) W (‵ (Holds (layout (shape R)) l (vstruct (parts R L r))) ∷ Γ) E (copy (place i (field k ∷ []))) (vint w8 (c .byte r))
-  byte-of =
-      load ! (at-local ! e (fld ! (c .found) (stop !)))
-      (subst (λ (u : Val). Reads (Go {0}) W (‵ (Holds (layout (shape R)) l (vstruct (parts R L r))) ∷ Γ) (tyInt w8) l (zero + c .offset) u) (c .held r) (look-in ! 0 (sub ! k (c .found) (whole !))))
+abbrev pub of-byte : {R : Declared} {L : LL.Laws R} {k : ℕ} → Byte R L k → Piece R L k
+of-byte c = record { ty = tyInt w8; val = λ r. vint w8 (c .byte r); offset = c .offset; found = c .found; held = c .held; Fits = λ r. c .byte r < 2 ^ 8; fits = c .fits }
 
 -- the byte alone
 abbrev pub one-byte : {R : Declared} {L : LL.Laws R} (k : ℕ) → Byte R L k → Result R L
@@ -266,60 +279,60 @@ one-byte k c = record {
   val = λ r. vint w8 (c .byte r);
   typed = λ r known. (tt, record { fits = c .fits r known });
   makes = λ 𝓤 H A W r known. uint-makes 𝓤 H A W w8 (c .byte r) _ (refl, c .fits r known);
-  evals = λ 𝓤 H A W E i l e r Γ. of-opd ! (byte-of c 𝓤 H A W E i l e r Γ);
+  evals = λ 𝓤 H A W E i l e r Γ. of-opd ! (piece-of (of-byte c) 𝓤 H A W E i l e r Γ);
 }
 
--- some of them, those of the fields ks, as a struct
-pub data Some (R : Declared) (L : LL.Laws R) : List ℕ → Type 2 where
+-- some parts, those of the fields ks, as a struct
+pub data Some (R : Declared) (L : LL.Laws R) : List ℕ → Type 3 where
   none : Some R L []
-  _and_ : {k : ℕ} {ks : List ℕ} → Byte R L k → Some R L ks → Some R L (k ∷ ks)
+  _with_ : {k : ℕ} {ks : List ℕ} → Piece R L k → Some R L ks → Some R L (k ∷ ks)
+
+infixr 5 _with_
+abbrev pub _and_ : {R : Declared} {L : LL.Laws R} {k : ℕ} {ks : List ℕ} → Byte R L k → Some R L ks → Some R L (k ∷ ks)
+c and cs = of-byte c with cs
 
 infixr 5 _and_
-abbrev pub bytes-of : {R : Declared} {L : LL.Laws R} {ks : List ℕ} → Some R L ks → R .D → List ℕ
-bytes-of none r = []
-bytes-of (c and cs) r = c .byte r ∷ bytes-of cs r
+abbrev pub AllFit : {R : Declared} {L : LL.Laws R} {ks : List ℕ} → Some R L ks → R .D → Type 0
+AllFit none r = Unit {0}
+AllFit (c with cs) r = c .Fits r × AllFit cs r
 
-abbrev pub AllFit : List ℕ → Type 0
-AllFit [] = Unit {0}
-AllFit (x ∷ xs) = (x < 2 ^ 8) × AllFit xs
-
-pub all-fit : {R : Declared} {L : LL.Laws R} {ks : List ℕ} (cs : Some R L ks) (r : R .D) → Known R L r → AllFit (bytes-of cs r)
+pub all-fit : {R : Declared} {L : LL.Laws R} {ks : List ℕ} (cs : Some R L ks) (r : R .D) → Known R L r → AllFit cs r
 all-fit none r known = tt
-all-fit (c and cs) r known = (c .fits r known, all-fit cs r known)
+all-fit (c with cs) r known = (c .fits r known, all-fit cs r known)
 
-abbrev byte-vals : List ℕ → List Val
-byte-vals [] = []
-byte-vals (x ∷ xs) = vint w8 x ∷ byte-vals xs
+abbrev piece-vals : {R : Declared} {L : LL.Laws R} {ks : List ℕ} → Some R L ks → R .D → List Val
+piece-vals none r = []
+piece-vals (c with cs) r = c .val r ∷ piece-vals cs r
 
-abbrev pub bytes-val : List ℕ → Val
-bytes-val xs = vstruct (ofList (byte-vals xs))
+abbrev pub pieces-val : {R : Declared} {L : LL.Laws R} {ks : List ℕ} → Some R L ks → R .D → Val
+pieces-val cs r = vstruct (ofList (piece-vals cs r))
 
 abbrev fields-at : ℕ → List ℕ → List Operand
 fields-at i [] = []
 fields-at i (k ∷ ks) = copy (place i (field k ∷ [])) ∷ fields-at i ks
 
 module _ {R : Declared} {L : LL.Laws R} {M : Type 1} (𝓤 : URA M) (H : Heap 𝓤) (A : Atoms 𝓤) (W : Given 𝓤 H A) (E : Env 𝓤 H) (i l : ℕ) (e : spotOf 𝓤 H E i ≡ (layout (shape R), l, zero)) (r : R .D) (Γ : List (Item 𝓤)) where
-  pub all-bytes : {ks : List ℕ} (cs : Some R L ks) → Opds (Go {0}) W (‵ (Holds (layout (shape R)) l (vstruct (parts R L r))) ∷ Γ) E (fields-at i ks) (byte-vals (bytes-of cs r))
-  all-bytes none = no-more !
-  all-bytes (c and cs) = and-then ! (byte-of c 𝓤 H A W E i l e r Γ) (all-bytes cs)
+  pub all-pieces : {ks : List ℕ} (cs : Some R L ks) → Opds (Go {0}) W (‵ (Holds (layout (shape R)) l (vstruct (parts R L r))) ∷ Γ) E (fields-at i ks) (piece-vals cs r)
+  all-pieces none = no-more !
+  all-pieces (c with cs) = and-then ! (piece-of c 𝓤 H A W E i l e r Γ) (all-pieces cs)
 
 -- the struct N that they make
-pub record Bytes {R : Declared} {L : LL.Laws R} {ks : List ℕ} (cs : Some R L ks) (N : Declared) : Type 2 where
+pub record Pieces {R : Declared} {L : LL.Laws R} {ks : List ℕ} (cs : Some R L ks) (N : Declared) : Type 2 where
   pub make : R .D → N .D
   pub plains : Plains (fields N)
-  pub typed : (r : R .D) → AllFit (bytes-of cs r) → T (hasTy (layout (shape N)) (bytes-val (bytes-of cs r))) × WT (bytes-val (bytes-of cs r))
-  pub is : (r : R .D) → AllFit (bytes-of cs r) → Is (row N) (make r) (bytes-val (bytes-of cs r) ∷ [])
+  pub typed : (r : R .D) → AllFit cs r → T (hasTy (layout (shape N)) (pieces-val cs r)) × WT (pieces-val cs r)
+  pub is : (r : R .D) → AllFit cs r → Is (row N) (make r) (pieces-val cs r ∷ [])
 
-abbrev pub some-bytes : {R : Declared} {L : LL.Laws R} {ks : List ℕ} (cs : Some R L ks) (N : Declared) → Bytes cs N → Result R L
-some-bytes {ks = ks} cs N b = record {
+abbrev pub some-pieces : {R : Declared} {L : LL.Laws R} {ks : List ℕ} (cs : Some R L ks) (N : Declared) → Pieces cs N → Result R L
+some-pieces {ks = ks} cs N b = record {
   P = row N;
   ty = layout (shape N);
   value = λ i. aggregate (fields-at i ks);
   res = b .make;
-  val = λ r. bytes-val (bytes-of cs r);
+  val = λ r. pieces-val cs r;
   typed = λ r known. b .typed r (all-fit cs r known);
   makes = λ 𝓤 H A W r known. LL.makes N (b .plains) 𝓤 H A _ _ (b .is r (all-fit cs r known));
-  evals = λ 𝓤 H A W E i l e r Γ. agg ! (all-bytes 𝓤 H A W E i l e r Γ cs);
+  evals = λ 𝓤 H A W E i l e r Γ. agg ! (all-pieces 𝓤 H A W E i l e r Γ cs);
 }
 
 -- none

@@ -12,6 +12,7 @@ use Rattle.machine.specs.declared.TakeAnswer.{TakeAnswer}
 use Rattle.machine.specs.Registers.{lacks}
 use Rattle.machine.specs.Power.{poweredDown}
 use Rattle.machine.specs.Record.{accepted, pinsOk}
+use Rattle.machine.specs.Totals.{noTotals}
 use Rattle.machine.specs.Interrupts.{Source, none, source, offered, noneInService}
 use Rattle.machine.specs.Calls.{writeAnswer, cycleAnswer, jumpAnswer, traceAnswer, traceFault, takeAnswer, takeOf, returnAnswer, cyclesFault}
 
@@ -21,7 +22,7 @@ module _ (d : Device) where
   Same a = (a .code ≡ 0 → ⊥) → a .device ≡ d
 
   abbrev SameRun : RunAnswer → Type 0
-  SameRun a = (a .code ≡ 0 → ⊥) → a .device ≡ d
+  SameRun a = (a .code ≡ 0 → ⊥) → (a .totals ≡ noTotals) × (a .device ≡ d)
 
   abbrev SameCycle : CycleAnswer → Type 0
   SameCycle a = (a .code ≡ 0 → ⊥) → (a .line ≡ 0) × (a .device ≡ d)
@@ -47,14 +48,14 @@ module _ (d : Device) where
   pub jump-refused : (pins n : ℕ) → SameRun (jumpAnswer d pins n)
   unfolding jumpAnswer
   jump-refused pins n =
-      chosen SameRun (eqb (cyclesFault d pins n) 0) _ _ (λ n. absurd (n refl)) (λ _. refl)
+      chosen SameRun (eqb (cyclesFault d pins n) 0) _ _ (λ n. absurd (n refl)) (λ _. (refl, refl))
 
   pub trace-refused : (es : List ℕ) → SameRun (traceAnswer d es)
   unfolding traceAnswer
   trace-refused es =
       chosen SameRun (accepted d) _ _
-      (chosen SameRun (eqb (traceFault es) 0) _ _ (λ n. absurd (n refl)) (λ _. refl))
-      (λ _. refl)
+      (chosen SameRun (eqb (traceFault es) 0) _ _ (λ n. absurd (n refl)) (λ _. (refl, refl)))
+      (λ _. (refl, refl))
 
   taken : (s : Source) → SameTake (takeOf d s)
   unfolding takeOf

@@ -1,5 +1,10 @@
--- The device as the struct that is lent, and where the answers of its calls have it and their bytes.
+-- The device as the struct that is lent, and where the answers of its calls have it, their bytes and their totals.
 use mathlib.Core.Path.{refl}
+use mathlib.Core.List.{[], _∷_}
+use mir.Val.{WT}
+use denote.Laws.{Is}
+use denote.Struct.Declared.{row}
+use denote.Struct.Laws as LL
 use Rattle.machine.proofs.Device as Device
 use Rattle.machine.proofs.Device.Laws as Device′
 use Rattle.machine.proofs.Answer as Answer
@@ -10,7 +15,9 @@ use Rattle.machine.proofs.CycleAnswer as CycleAnswer
 use Rattle.machine.proofs.CycleAnswer.Laws as CycleAnswer′
 use Rattle.machine.proofs.TakeAnswer as TakeAnswer
 use Rattle.machine.proofs.TakeAnswer.Laws as TakeAnswer′
-use Rattle.lent.proofs.Lent.{Struct, Carries, Byte}
+use Rattle.machine.proofs.Totals as Totals
+use Rattle.machine.proofs.Totals.Laws as Totals′
+use Rattle.lent.proofs.Lent.{Struct, value, stored-as, Carries, Piece, Byte}
 
 abbrev pub device : Struct
 device = record { type = Device.the-type; laws = Device′.the-laws; plains = Device′.the-plain }
@@ -18,8 +25,8 @@ device = record { type = Device.the-type; laws = Device′.the-laws; plains = De
 abbrev pub answer-carries : Carries device Answer.the-type Answer′.the-laws 1
 answer-carries = record { struct = λ r. r .device; offset = 8; found = refl; held = λ r. refl; owns = λ r known. known .1 .0 }
 
-abbrev pub run-answer-carries : Carries device RunAnswer.the-type RunAnswer′.the-laws 1
-run-answer-carries = record { struct = λ r. r .device; offset = 8; found = refl; held = λ r. refl; owns = λ r known. known .1 .0 }
+abbrev pub run-answer-carries : Carries device RunAnswer.the-type RunAnswer′.the-laws 2
+run-answer-carries = record { struct = λ r. r .device; offset = 32; found = refl; held = λ r. refl; owns = λ r known. known .1 .1 .0 }
 
 abbrev pub cycle-answer-carries : Carries device CycleAnswer.the-type CycleAnswer′.the-laws 2
 cycle-answer-carries = record { struct = λ r. r .device; offset = 8; found = refl; held = λ r. refl; owns = λ r known. known .1 .1 .0 }
@@ -32,6 +39,27 @@ answer-code = record { byte = λ r. r .code; offset = 0; found = refl; held = λ
 
 abbrev pub run-code : Byte RunAnswer.the-type RunAnswer′.the-laws 0
 run-code = record { byte = λ r. r .code; offset = 0; found = refl; held = λ r. refl; fits = λ r known. known .0 .1 }
+
+-- overflow totals
+abbrev pub totals : Struct
+totals = record { type = Totals.the-type; laws = Totals′.the-laws; plains = Totals′.the-plain }
+
+abbrev pub run-totals : Piece RunAnswer.the-type RunAnswer′.the-laws 1
+run-totals = record {
+  ty = stored-as totals;
+  val = λ r. value totals (r .totals);
+  offset = 8;
+  found = refl;
+  held = λ r. refl;
+  Fits = λ r. Is (row Totals.the-type) (r .totals) (value totals (r .totals) ∷ []);
+  fits = λ r known. known .1 .0;
+}
+
+-- and what is known of them: each fits its 64 bits
+abbrev pub totals-typed : (t : Totals.the-type .D) → Is (row Totals.the-type) t (value totals t ∷ []) → WT (value totals t)
+totals-typed t is =
+    let known = LL.owed Totals.the-type Totals′.the-laws t _ is in
+    (record { fits = known .0 .1 }, (record { fits = known .1 .0 .1 }, (record { fits = known .1 .1 .0 .1 }, tt)))
 
 abbrev pub cycle-code : Byte CycleAnswer.the-type CycleAnswer′.the-laws 0
 cycle-code = record { byte = λ r. r .code; offset = 0; found = refl; held = λ r. refl; fits = λ r known. known .0 .1 }

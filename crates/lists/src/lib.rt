@@ -34,6 +34,8 @@ pub fn replay(d: Device, calls: &[u64], lent: &[u32], answers: &mut [u64]) -> De
         answers[to] = row[0];
         answers[to + 1] = row[1];
         answers[to + 2] = row[2];
+        answers[to + 3] = row[3];
+        answers[to + 4] = row[4];
         at = p.device;
         i += 1;
     }

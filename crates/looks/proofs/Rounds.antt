@@ -4,6 +4,7 @@ use Prim.Native.Nat.{ℕ, zero, suc, _+_, _-_, _≤_, _<_}
 use mathlib.Core.Path.{_≡_, refl, sym, ap, _∙_, subst}
 use mathlib.Core.Bool.{Bool, true, false}
 use native.Mathlib.Omega.{arith}
+use Rattle.machine.specs.declared.Totals.{Totals}
 use Rattle.machine.specs.declared.Device.{Device}
 use Rattle.machine.specs.declared.LookAnswer.{LookAnswer}
 use Rattle.machine.specs.declared.LookAnswer.the-variants.{At, Nothing}
@@ -20,7 +21,7 @@ use Rattle.reload.proofs.Alone.{idles-idle}
 use Rattle.jump.specs.declared.Round.{Round}
 use Rattle.jump.specs.Rounds.{Ready, Crossed}
 use Rattle.jump.proofs.Idles.{idles-here}
-use Rattle.jump.proofs.Rounds.{within-room, used-busy, used-quiet}
+use Rattle.jump.proofs.Rounds.{ran, within-room, used-busy, used-quiet}
 use Rattle.looks.proofs.Looks.{Hears, find-quiet, find-idle, on-here, on-one, on-stride}
 
 module _ {finds : Device → Device → Bool} {P : Device → Type 0} (hears : Hears finds P) where
@@ -36,13 +37,13 @@ module _ {finds : Device → Device → Bool} {P : Device → Type 0} (hears : H
       sym (find-idle hears k n pins d (ranges-of d (y .good)) p (idles-idle (pinsOf (d .kind) pins) d (idles-here pins d y q t))) ∙ i
 
   -- A round, after k of the n cycles
-  module _ (k n pins : ℕ) (d : Device) (h : k < n) {r : Round} (c : Crossed pins (n - k) d r) where
-    busy-cycle : room pins d ≡ 0 → r .device ≡ cycleOf pins d
+  module _ (k n pins : ℕ) (d : Device) (h : k < n) {sum : Totals} {r : Round} (c : Crossed pins (n - k) (ran sum d) r) where
+    busy-cycle : room pins d ≡ 0 → r .run .device ≡ cycleOf pins d
     busy-cycle z = c .reaches ∙ (ap (λ (m : ℕ). cycles m pins d) (c .used ∙ used-busy pins (n - k) d z) ∙ cycles-one pins d)
 
     -- it is found: so is the round's one cycle
     pub look-here : {v : LookAnswer} → accepted d ≡ true → P d → firstCycle finds k (n - k) pins d ≡ v
-        → finds d (r .device) ≡ true → At (k + r .used) ≡ v
+        → finds d (r .run .device) ≡ true → At (k + r .used) ≡ v
     look-here {v} a p inv e = go (room pins d) refl
       where
         go : (m : ℕ) → room pins d ≡ m → At (k + r .used) ≡ v
@@ -51,16 +52,16 @@ module _ {finds : Device → Device → Bool} {P : Device → Type 0} (hears : H
         go (suc m) z =
             let q = used-quiet pins (n - k) d (omega arith) in
             let s = quiet-silent (r .used) pins d (ranges-of d a) (omega (arith, c .used)) in
-            absurd (clash e (hears .silence d (r .device) (subst (Silent d) (sym (c .reaches)) s) p))
+            absurd (clash e (hears .silence d (r .run .device) (subst (Silent d) (sym (c .reaches)) s) p))
 
     -- it is not: the look goes on after the round
     pub look-on : {v : LookAnswer} → accepted d ≡ true → P d → firstCycle finds k (n - k) pins d ≡ v
-        → finds d (r .device) ≡ false → firstCycle finds (k + r .used) (n - (k + r .used)) pins (r .device) ≡ v
+        → finds d (r .run .device) ≡ false → firstCycle finds (k + r .used) (n - (k + r .used)) pins (r .run .device) ≡ v
     look-on {v} a p inv e = go (room pins d) refl
       where
-        go : (m : ℕ) → room pins d ≡ m → firstCycle finds (k + r .used) (n - (k + r .used)) pins (r .device) ≡ v
+        go : (m : ℕ) → room pins d ≡ m → firstCycle finds (k + r .used) (n - (k + r .used)) pins (r .run .device) ≡ v
         go zero z =
-            ap (λ (m : ℕ). firstCycle finds (k + m) (n - (k + m)) pins (r .device)) (c .used ∙ used-busy pins (n - k) d z)
+            ap (λ (m : ℕ). firstCycle finds (k + m) (n - (k + m)) pins (r .run .device)) (c .used ∙ used-busy pins (n - k) d z)
             ∙ on-one finds k n pins d inv h (busy-cycle z) e
         go (suc m) z =
             let q = used-quiet pins (n - k) d (omega arith) in

@@ -1,9 +1,10 @@
-// Looks by the rounds of a jump: the first cycle in which a flag rises, and the first after which an interrupt is offered. `pins` is
-// the pin byte as the kind takes it.
+// Looks by the rounds of a jump: the first cycle in which a flag rises, and the first after which an interrupt is offered. They answer no
+// overflow totals. `pins` is the pin byte as the kind takes it.
 ghost use mathlib.Core.Path.{_≡_};
 ghost use Prim.Native.Nat.{_≤_};
 ghost use Rattle.machine.specs.Calls.{longest, firstRise, firstOffer};
 ghost use Rattle.jump.specs.Rounds.{Ready};
+use cycle::Run;
 use machine::Device;
 use machine::LookAnswer;
 
@@ -24,8 +25,12 @@ pub fn first_rise(d: Device, pins: u8, n: u64) -> LookAnswer
         if ahead.room >= left {
             return LookAnswer::Nothing;
         }
-        let r = jump::one_round(at, pins, left, ahead.room);
-        let e = r.device;
+        let from = Run {
+            totals: totals::none(),
+            device: at,
+        };
+        let r = jump::one_round(from, pins, left, ahead.room);
+        let e = r.run.device;
         done += r.used;
         if flags::any_rises(
             at.timers.tcon,
@@ -62,8 +67,12 @@ pub fn first_offer(d: Device, pins: u8, n: u64) -> LookAnswer
         if left <= ahead.room {
             return LookAnswer::Nothing;
         }
-        let r = jump::one_round(at, pins, left, ahead.room);
-        at = r.device;
+        let from = Run {
+            totals: totals::none(),
+            device: at,
+        };
+        let r = jump::one_round(from, pins, left, ahead.room);
+        at = r.run.device;
         k += r.used;
         if interrupts::offers(at.pcon, at.interrupts) {
             return LookAnswer::At(k);

@@ -1,7 +1,7 @@
 -- Document 01, "Jumps, traces, looking ahead", "The plain machine" and "Refused calls": the answer of each call and the device after it.
 -- Refusals are judged in the table's order, but for a trace, which has its own; a refused call leaves the device as given, but for a
 -- refused reset, which leaves the record of zeros. Document 02, request One: the wake look, and 10 for a write, a take and a return in
--- power-down, after 1 and before 3, 6 and 7.
+-- power-down, after 1 and before 3, 6 and 7. Request Seven: a jump and a trace run answer overflow totals.
 use Prim.Native.Nat.{ℕ, zero, suc, _^_}
 use mathlib.Core.Bool.{Bool, cond}
 use mathlib.Core.List.{List, [], _∷_}
@@ -10,6 +10,7 @@ use lib.ListN.{length}
 use Rattle.machine.specs.declared.Timers.{Timers}
 use Rattle.machine.specs.declared.Interrupts.{Interrupts}
 use Rattle.machine.specs.declared.Device.{Device}
+use Rattle.machine.specs.declared.Totals.{Totals}
 use Rattle.machine.specs.declared.Answer.{Answer}
 use Rattle.machine.specs.declared.RunAnswer.{RunAnswer}
 use Rattle.machine.specs.declared.CycleAnswer.{CycleAnswer}
@@ -29,6 +30,7 @@ use Rattle.machine.specs.Interrupts.{Source, offered, offers, vectorOf, 
 use Rattle.machine.specs.Interrupts.Source.{none, source}
 use Rattle.machine.specs.Flags.{flags, anyRises}
 use Rattle.machine.specs.Cycle.{cycleOf, cycles}
+use Rattle.machine.specs.Totals.{noTotals, added, totals}
 
 -- a call that answers only that it passed
 abbrev pub passed : Device → Answer
@@ -130,12 +132,12 @@ cycleAnswer d pins =
     (unless (pinsOk pins) (refuseCycle 4 d)
     (passedCycle (cycleOf pins d)))
 
--- Jump: n cycles with one pin byte
+-- Jump: n cycles with one pin byte; it answers the overflows in them
 abbrev pub refuseRun : ℕ → Device → RunAnswer
-refuseRun n d = record { code = n; device = d }
+refuseRun n d = record { code = n; totals = noTotals; device = d }
 
-abbrev pub passedRun : Device → RunAnswer
-passedRun d = record { code = 0; device = d }
+abbrev pub passedRun : Totals → Device → RunAnswer
+passedRun t d = record { code = 0; totals = t; device = d }
 
 -- the most cycles of a jump, and the most entries of a trace
 abbrev pub longest : ℕ
@@ -155,7 +157,7 @@ cyclesFault d pins n =
 unfoldable pub jumpAnswer : Device → ℕ → ℕ → RunAnswer
 jumpAnswer d pins n =
     unless (eqb (cyclesFault d pins n) 0) (refuseRun (cyclesFault d pins n) d)
-    (passedRun (cycles n pins d))
+    (passedRun (totals n pins d) (cycles n pins d))
 
 -- Trace run: an entry has the pin byte on top and the cycles in its low 24 bits
 abbrev pub entryPins : ℕ → ℕ
@@ -185,11 +187,17 @@ unfoldable pub traceCycles : List ℕ → Device → Device
 traceCycles [] d = d
 traceCycles (e ∷ es) d = traceCycles es (cycles (entryCycles e) (entryPins e) d)
 
+-- and the overflows in them
+unfoldable pub traceTotals : List ℕ → Device → Totals
+traceTotals [] d = noTotals
+traceTotals (e ∷ es) d =
+    added (totals (entryCycles e) (entryPins e) d) (traceTotals es (cycles (entryCycles e) (entryPins e) d))
+
 unfoldable pub traceAnswer : Device → List ℕ → RunAnswer
 traceAnswer d es =
     unless (accepted d) (refuseRun 1 d)
     (unless (eqb (traceFault es) 0) (refuseRun (traceFault es) d)
-    (passedRun (traceCycles es d)))
+    (passedRun (traceTotals es d) (traceCycles es d)))
 
 -- Look ahead: document 01's term for asking when a flag will rise
 

@@ -17,15 +17,16 @@ use Rattle.machine.specs.Interrupts.{external, either, seenOf, firstOf, 
 use Rattle.machine.specs.Flags.{flags, risen, anyRises}
 use Rattle.machine.specs.Times.{noted, timesAfter, pairsOk, never}
 use Rattle.machine.specs.Cycle.{falls, counted, externals, timersAfter, timer2After, ticksIn, steps as stepsOf, cycleOf, cycles}
-use Rattle.machine.specs.Calls.{resetAnswer, valueIn, registerAt, readAnswer, stored, writeAnswer, cycleAnswer, cyclesFault, jumpAnswer, entryFault, firstBad, traceFault, traceCycles, traceAnswer, firstCycle, lookAnswer, wakeAnswer, offerOf, offerAnswer, takeOf, takeAnswer, returnAnswer}
+use Rattle.machine.specs.Totals.{totalsNext, totals}
+use Rattle.machine.specs.Calls.{resetAnswer, valueIn, registerAt, readAnswer, stored, writeAnswer, cycleAnswer, cyclesFault, jumpAnswer, entryFault, firstBad, traceFault, traceCycles, traceTotals, traceAnswer, firstCycle, lookAnswer, wakeAnswer, offerOf, offerAnswer, takeOf, takeAnswer, returnAnswer}
 use Rattle.machine.specs.Lists.{Call, Reply, Ran, nothing, number, says, play, run}
 use Rattle.machine.specs.Lists.Call.{reset, read, write, cycle, jump, trace, look, offer, take, return, wake}
-use Rattle.machine.specs.Lists.Value.{none}
+use Rattle.machine.specs.Lists.Value.{numbers, none}
 use Rattle.machine.specs.Replies.{sameNumbers, sameValue, sameReply, sameReplies}
 
 -- a row: the card's number, the device that the calls start from, the calls, and what has to hold of the run. Cards 1 to 10 are numbered
 -- by their place in document 01, 11 to 16 are those of request One, 17 to 21 of request Two, 22 and 23 of request Five, 24 to 30 of request
--- Six
+-- Six, 31 to 36 of request Seven
 pub record Row : Type 0 where
   pub card : ℕ
   pub start : Device
@@ -46,6 +47,16 @@ passes = says 0 nothing
 
 abbrev gives : ℕ → Reply
 gives n = says 0 (number n)
+
+-- a jump or a trace run passes, and gives the overflows of Timers 0, 1 and 2; one that is refused gives zeros
+abbrev laps : ℕ → ℕ → ℕ → Reply
+laps t0 t1 t2 = says 0 (numbers (t0 ∷ t1 ∷ t2 ∷ []))
+
+abbrev noLaps : Reply
+noLaps = laps 0 0 0
+
+abbrev refusesRun : ℕ → Reply
+refusesRun n = says n (numbers (0 ∷ 0 ∷ 0 ∷ []))
 
 -- every pin high; one pin low
 abbrev high : ℕ
@@ -73,9 +84,12 @@ lowT2EX = 0x3f
 abbrev set : ℕ → ℕ → Asked
 set a v = asked (write a v) passes
 
--- n cycles by one jump, pins high
+-- n cycles by one jump, pins high, in which the timers overflow so often; and in which none does
+abbrev goes : ℕ → ℕ → ℕ → ℕ → Asked
+goes n t0 t1 t2 = asked (jump high n) (laps t0 t1 t2)
+
 abbrev go : ℕ → Asked
-go n = asked (jump high n) passes
+go n = goes n 0 0 0
 
 -- one cycle, whose line stays high
 abbrev step : ℕ → Asked
@@ -157,8 +171,8 @@ card2 kind =
     ∷ []
     )
 
--- mode 2, TH1 FD, TL1 FE, jump 101: 34 overflows, TL1 FD. In serial mode 1 with SMOD 1 each overflow is a tick: 34 = 2 × 16 + 2
--- roll the send counter over twice and leave 2
+-- mode 2, TH1 FD, TL1 FE, jump 101: 34 overflows, which the jump answers, TL1 FD. In serial mode 1 with SMOD 1 each overflow is a tick:
+-- 34 = 2 × 16 + 2 roll the send counter over twice and leave 2
 card3 : ℕ → Row
 card3 kind =
     rowWith (λ d. eqb (d .serial .send .position) 3 && eqb (d .serial .send .counter) 2) 3 kind (
@@ -169,7 +183,7 @@ card3 kind =
     ∷ set SCON 0x40
     ∷ set SBUF 0x00
     ∷ set TCON 0x40
-    ∷ go 101
+    ∷ goes 101 0 34 0
     ∷ holds TL1 0xfd
     ∷ []
     )
@@ -225,17 +239,17 @@ mode1send pcon =
 
 -- SMOD 1: TI in cycle 160
 card6 : ℕ → Row
-card6 kind = rowOf 6 kind (mode1send 0x80 ++ (go 159 ∷ holds SCON 0x40 ∷ go 1 ∷ holds SCON 0x42 ∷ []))
+card6 kind = rowOf 6 kind (mode1send 0x80 ++ (goes 159 0 159 0 ∷ holds SCON 0x40 ∷ goes 1 0 1 0 ∷ holds SCON 0x42 ∷ []))
 
 -- SMOD 0: 320, by two jumps with half set between them
 card6half : ℕ → Row
-card6half kind = rowOf 6 kind (mode1send 0x00 ++ (go 159 ∷ go 160 ∷ holds SCON 0x40 ∷ go 1 ∷ holds SCON 0x42 ∷ []))
+card6half kind = rowOf 6 kind (mode1send 0x00 ++ (goes 159 0 159 0 ∷ goes 160 0 160 0 ∷ holds SCON 0x40 ∷ goes 1 0 1 0 ∷ holds SCON 0x42 ∷ []))
 
 -- the same, SMOD 1, after a jump of 1: look ahead 159 gives 159, 158 gives none
 card7 : ℕ → Row
 card7 kind =
     rowOf 7 kind
-    (mode1send 0x80 ++ (go 1 ∷ asked (look high 159) (gives 159) ∷ asked (look high 158) (says 0 none) ∷ []))
+    (mode1send 0x80 ++ (goes 1 0 1 0 ∷ asked (look high 159) (gives 159) ∷ asked (look high 158) (says 0 none) ∷ []))
 
 -- serial mode 2 send: TI in cycle 30 with SMOD 1, 59 with 0
 card8 : ℕ → ℕ → ℕ → Row
@@ -298,7 +312,7 @@ card11 kind =
     ∷ set TCON 0x10
     ∷ set PCON 0x81
     ∷ wakes 9 3
-    ∷ go 3
+    ∷ goes 3 1 0 0
     ∷ offers 0x0b
     ∷ holds PCON 0x81
     ∷ asked take (gives 0x0b)
@@ -317,8 +331,8 @@ card12 kind =
     ∷ offers 0x0b
     ∷ set PCON 0x03
     ∷ step lowINT0
-    ∷ asked (jump lowINT0 1000) passes
-    ∷ asked (trace (0x7d000005 ∷ [])) passes
+    ∷ asked (jump lowINT0 1000) noLaps
+    ∷ asked (trace (0x7d000005 ∷ [])) noLaps
     ∷ asked (look lowINT0 1000) (says 0 none)
     ∷ holds TCON 0x30
     ∷ holds TL0 2
@@ -353,8 +367,8 @@ card13 kind =
     ∷ asked return (says 10 nothing)
     ∷ asked (read 0x80) (says 3 (number 0))
     ∷ asked (cycle 0x80) (says 4 (number 0))
-    ∷ asked (jump high 0x10000000001) (says 5 nothing)
-    ∷ asked (trace (0x7f000000 ∷ [])) (says 8 nothing)
+    ∷ asked (jump high 0x10000000001) (refusesRun 5)
+    ∷ asked (trace (0x7f000000 ∷ [])) (refusesRun 8)
     ∷ []
     )
 
@@ -482,9 +496,9 @@ card19 reload steps =
     ))
 
 -- as a baud rate generator, which overflows six times a cycle from FFFF and once from FFFA, it sets no TF2, and nothing is offered
-card20 : ℕ → ℕ → Row
-card20 t2con count =
-    rowOf 20 52 (timer2At count count ++ (set T2CON t2con ∷ wakesNone 9 ∷ go 9 ∷ holds T2CON t2con ∷ offersNone ∷ []))
+card20 : ℕ → ℕ → ℕ → Row
+card20 t2con count laps =
+    rowOf 20 52 (timer2At count count ++ (set T2CON t2con ∷ wakesNone 9 ∷ goes 9 0 0 laps ∷ holds T2CON t2con ∷ offersNone ∷ []))
 
 -- nor where it counts T2, which falls in cycle 1 and is counted in cycle 2
 card20counter : Row
@@ -568,36 +582,37 @@ timer0Near = set TMOD 0x01 ∷ set TH0 0xff ∷ set TL0 0xfe ∷ set TCON 0x10 �
 
 -- the same: TF0 rises by the overflow in cycle 2, and its number is 2; it stays 2
 card24 : ℕ → ℕ → Row
-card24 n kind = rowWith (rose 0 2) 24 kind (timer0Near ++ go n ∷ [])
+card24 n kind = rowWith (rose 0 2) 24 kind (timer0Near ++ goes n 1 0 0 ∷ [])
 
 -- a flag that software writes never counts, nor does one that is 1 by software when the overflow sets it again
-card25 : List Asked → ℕ → Row
-card25 writes kind = rowWith neverRose 25 kind (writes ++ go 9 ∷ [])
+card25 : List Asked → ℕ → ℕ → Row
+card25 writes laps kind = rowWith neverRose 25 kind (writes ++ goes 9 laps 0 0 ∷ [])
 
 -- TF0 rises in cycle 2; cleared, with the timer at FFFE again, it rises in cycle 4, and its number is the later one
 card26 : ℕ → Row
-card26 kind = rowWith (rose 0 4) 26 kind (timer0Near ++ go 2 ∷ set TCON 0x10 ∷ set TH0 0xff ∷ set TL0 0xfe ∷ go 9 ∷ [])
+card26 kind = rowWith (rose 0 4) 26 kind (timer0Near ++ goes 2 1 0 0 ∷ set TCON 0x10 ∷ set TH0 0xff ∷ set TL0 0xfe ∷ goes 9 1 0 0 ∷ [])
 
 -- Timer 0 mode 2, reload FF: it overflows in cycle 2 and in every one after it, and TF0, which stays 1, has risen in cycle 2 alone
 card26again : ℕ → Row
-card26again kind = rowWith (rose 0 2) 26 kind (set TMOD 0x02 ∷ set TH0 0xff ∷ set TL0 0xfe ∷ set TCON 0x10 ∷ go 9 ∷ [])
+card26again kind = rowWith (rose 0 2) 26 kind (set TMOD 0x02 ∷ set TH0 0xff ∷ set TL0 0xfe ∷ set TCON 0x10 ∷ goes 9 8 0 0 ∷ [])
 
--- each flag: n cycles with a pin byte leave the same pair as single cycles, as a jump, as two jumps and as a trace run
+-- each flag: n cycles with a pin byte leave the same pair as single cycles, as a jump, as two jumps and as a trace run; no timer overflows
+-- in the first of them
 singles : ℕ → ℕ → List Asked
 singles pins zero = []
 singles pins (suc n) = step pins ∷ singles pins n
 
-ways : ℕ → ℕ → List (List Asked)
-ways pins n =
+ways : ℕ → ℕ → Reply → List (List Asked)
+ways pins n totals =
     singles pins n
-    ∷ (asked (jump pins n) passes ∷ [])
-    ∷ (asked (jump pins 1) passes ∷ asked (jump pins (n - 1)) passes ∷ [])
-    ∷ (asked (trace ((pins * 0x1000000 + n) ∷ [])) passes ∷ [])
+    ∷ (asked (jump pins n) totals ∷ [])
+    ∷ (asked (jump pins 1) noLaps ∷ asked (jump pins (n - 1)) totals ∷ [])
+    ∷ (asked (trace ((pins * 0x1000000 + n) ∷ [])) totals ∷ [])
     ∷ []
 
-card27 : ℕ → ℕ → List Asked → ℕ → ℕ → ℕ → List Row
-card27 place last writes pins n kind =
-    map (λ (way : List Asked). rowWith (rose place last) 27 kind (writes ++ way)) (ways pins n)
+card27 : ℕ → ℕ → List Asked → ℕ → ℕ → Reply → ℕ → List Row
+card27 place last writes pins n totals kind =
+    map (λ (way : List Asked). rowWith (rose place last) 27 kind (writes ++ way)) (ways pins n totals)
 
 -- the device with another cycle number and other flag times
 timed : ℕ → FlagTimes → Device → Device
@@ -616,7 +631,7 @@ timed n times d =
 
 -- card 24 from the cycle number 2^64 - 2: the number wraps with the cycle number, and the flag rose all the same
 card28 : ℕ → Row
-card28 kind = rowFrom (timed (2 ^ 64 - 2) never (resetOf kind)) (rose 0 0) 28 (timer0Near ++ go 2 ∷ [])
+card28 kind = rowFrom (timed (2 ^ 64 - 2) never (resetOf kind)) (rose 0 0) 28 (timer0Near ++ goes 2 1 0 0 ∷ [])
 
 -- what is no cycle keeps the pairs: reads, looks, offers, a take and a return, every refused call, and power-down
 card29 : ℕ → Row
@@ -624,16 +639,16 @@ card29 kind =
     rowWith (rose 0 2) 29 kind (
     timer0Near
     ++ set IE 0x82
-    ∷ go 2
+    ∷ goes 2 1 0 0
     ∷ holds TCON 0x30
     ∷ asked (look high 9) (says 0 none)
     ∷ wakes 9 1
     ∷ asked (write 0x80 0x00) (says 3 nothing)
     ∷ asked (cycle 0x80) (says 4 (number 0))
-    ∷ asked (jump high 0x10000000001) (says 5 nothing)
+    ∷ asked (jump high 0x10000000001) (refusesRun 5)
     ∷ asked take (says 6 (number 0))
     ∷ asked return (says 7 nothing)
-    ∷ asked (trace (0x7f000000 ∷ [])) (says 8 nothing)
+    ∷ asked (trace (0x7f000000 ∷ [])) (refusesRun 8)
     ∷ go 1
     ∷ offers 0x0b
     ∷ asked take (gives 0x0b)
@@ -646,7 +661,7 @@ card29 kind =
 
 -- reset clears them
 card29reset : ℕ → Row
-card29reset kind = rowWith neverRose 29 kind (timer0Near ++ go 2 ∷ asked (reset kind) passes ∷ [])
+card29reset kind = rowWith neverRose 29 kind (timer0Near ++ goes 2 1 0 0 ∷ asked (reset kind) passes ∷ [])
 
 -- a record with one pair set: never with a number and an ever above 1 are refused by 1 and stay as they are, ever with any number is
 -- accepted; at any place
@@ -660,6 +675,87 @@ bad place ever last = card30 place ever last (asked (cycle high) (says 1 (number
 
 good : ℕ → ℕ → ℕ → Row
 good place last = card30 place 1 last (step high ∷ [])
+
+-- Request Seven. Timer 0 in mode 3, TL0 and TH0 at FF, both running: both overflow in one cycle, which gives 2; TH0's sets TF1 and is
+-- none of Timer 1's
+card31 : ℕ → Row
+card31 kind =
+    rowOf 31 kind (set TMOD 0x03 ∷ set TL0 0xff ∷ set TH0 0xff ∷ set TCON 0x50 ∷ goes 1 2 0 0 ∷ holds TCON 0xf0 ∷ go 255 ∷ goes 1 2 0 0 ∷ [])
+
+-- Timer 1 in mode 2, TH1 FD, TL1 FE, with Timer 0 in mode 3: it overflows 34 times in 101 cycles and sets no flag
+card32 : ℕ → Row
+card32 kind = rowOf 32 kind (set TMOD 0x23 ∷ set TH1 0xfd ∷ set TL1 0xfe ∷ goes 101 0 34 0 ∷ holds TCON 0x00 ∷ [])
+
+-- RCLK, RCAP2 and count FFFD: 2 overflows a cycle; FFFF: 6
+card33 : Row
+card33 = rowOf 33 52 (baud2 ++ (goes 1 0 0 2 ∷ goes 100 0 0 200 ∷ set RCAP2L 0xff ∷ set TL2 0xff ∷ goes 9 0 0 54 ∷ []))
+
+-- with auto-reload, RCAP2 and count FFFF: one a cycle. A reload by T2EX is none: it falls in the first of two cycles, and the count goes
+-- from 1234 to RCAP2
+card33reload : Row
+card33reload =
+    rowOf 33 52 (
+    timer2At 0xff 0xff
+    ++ set T2CON 0x04
+    ∷ goes 9 0 0 9
+    ∷ set T2CON 0x0c
+    ∷ set RCAP2L 0x00
+    ∷ set TH2 0x12
+    ∷ set TL2 0x34
+    ∷ asked (jump lowT2EX 2) noLaps
+    ∷ holds TH2 0xff
+    ∷ holds TL2 0x01
+    ∷ []
+    )
+
+-- Timer 0 in mode 0, Timer 1 in mode 1 and Timer 2 overflow in one cycle, the second
+card34 : Row
+card34 =
+    rowOf 34 52 (
+    timer2At 0x00 0xfe
+    ++ set TMOD 0x10
+    ∷ set TH0 0xff
+    ∷ set TL0 0x1e
+    ∷ set TH1 0xff
+    ∷ set TL1 0xfe
+    ∷ set T2CON 0x04
+    ∷ set TCON 0x50
+    ∷ go 1
+    ∷ goes 1 1 1 1
+    ∷ go 99
+    ∷ []
+    )
+
+-- Timer 1 in mode 2 overflows in every cycle: three zeros from a jump and a trace run of no cycles, from those that 4, 5 or 8 refuses, in
+-- power-down, and where 1 refuses
+card35 : ℕ → Row
+card35 kind =
+    rowOf 35 kind (
+    set TMOD 0x20
+    ∷ set TH1 0xff
+    ∷ set TL1 0xff
+    ∷ set TCON 0x40
+    ∷ goes 9 0 9 0
+    ∷ go 0
+    ∷ asked (trace []) noLaps
+    ∷ asked (jump 0x80 9) (refusesRun 4)
+    ∷ asked (jump high 0x10000000001) (refusesRun 5)
+    ∷ asked (trace (0x7f000009 ∷ 0x80000009 ∷ [])) (refusesRun 4)
+    ∷ asked (trace (0x7f000009 ∷ 0x7f000000 ∷ [])) (refusesRun 8)
+    ∷ goes 1 0 1 0
+    ∷ set PCON 0x02
+    ∷ go 9
+    ∷ asked (trace (0x7f000009 ∷ [])) noLaps
+    ∷ asked (reset 50) (says 2 nothing)
+    ∷ asked (jump high 9) (refusesRun 1)
+    ∷ asked (trace (0x7f000009 ∷ [])) (refusesRun 1)
+    ∷ []
+    )
+
+-- the 101 cycles of card 3 by two jumps, and by the entries of a trace: the totals of two jumps add up to those of one
+card36 : List Asked → ℕ → Row
+card36 runs kind =
+    rowOf 36 kind (set TMOD 0x20 ∷ set TH1 0xfd ∷ set TL1 0xfe ∷ set TCON 0x40 ∷ (runs ++ holds TL1 0xfd ∷ []))
 
 -- on both kinds
 both : (ℕ → Row) → List Row
@@ -702,8 +798,8 @@ cards =
     ∷ both card16
     ∷ (card17 0x04 0x84
     ∷ card17 0x05 0x85
-    ∷ card17by (go 2)
-    ∷ card17by (asked (trace (0x7f000002 ∷ [])) passes)
+    ∷ card17by (goes 2 0 0 1)
+    ∷ card17by (asked (trace (0x7f000002 ∷ [])) (laps 0 0 1))
     ∷ card17counter 0x06 0x86
     ∷ card17counter 0x07 0x87
     ∷ card18 0x0c 0x4c
@@ -714,10 +810,10 @@ cards =
     ∷ card19 0xff (wakes 9 1 ∷ step high ∷ holds T2CON 0x84 ∷ offers 0x2b ∷ [])
     -- none does: TF2 is heard again after two cycles
     ∷ card19 0x00 (wakes 9 2 ∷ step high ∷ offersNone ∷ step high ∷ offers 0x2b ∷ [])
-    ∷ card20 0x14 0xff
-    ∷ card20 0x24 0xff
-    ∷ card20 0x14 0xfa
-    ∷ card20 0x24 0xfa
+    ∷ card20 0x14 0xff 54
+    ∷ card20 0x24 0xff 54
+    ∷ card20 0x14 0xfa 9
+    ∷ card20 0x24 0xfa 9
     ∷ card20counter
     ∷ card21 0x80 0xff
     ∷ card21 0x84 0xf0
@@ -729,19 +825,19 @@ cards =
     ∷ both card23
     ∷ both (card24 2)
     ∷ both (card24 9)
-    ∷ both (card25 (set TCON 0xaa ∷ set SCON 0x03 ∷ []))
-    ∷ both (card25 (timer0Near ++ set TCON 0x30 ∷ []))
-    ∷ (card25 (set T2CON 0xc0 ∷ []) 52 ∷ [])
+    ∷ both (card25 (set TCON 0xaa ∷ set SCON 0x03 ∷ []) 0)
+    ∷ both (card25 (timer0Near ++ set TCON 0x30 ∷ []) 1)
+    ∷ (card25 (set T2CON 0xc0 ∷ []) 0 52 ∷ [])
     ∷ both card26
     ∷ both card26again
-    ∷ card27 0 2 timer0Near high 4 51
-    ∷ card27 1 2 (set TMOD 0x10 ∷ set TH1 0xff ∷ set TL1 0xfe ∷ set TCON 0x40 ∷ []) high 4 51
-    ∷ card27 2 1 (set TCON 0x01 ∷ []) lowINT0 3 51
-    ∷ card27 3 1 (set TCON 0x04 ∷ []) lowINT1 3 51
-    ∷ card27 4 10 (set SCON 0x10 ∷ []) high 12 51
-    ∷ card27 5 10 (set SBUF 0xff ∷ []) high 12 51
-    ∷ card27 6 2 (set TH2 0xff ∷ set TL2 0xfe ∷ set T2CON 0x04 ∷ []) high 4 52
-    ∷ card27 7 1 (set T2CON 0x0c ∷ []) lowT2EX 3 52
+    ∷ card27 0 2 timer0Near high 4 (laps 1 0 0) 51
+    ∷ card27 1 2 (set TMOD 0x10 ∷ set TH1 0xff ∷ set TL1 0xfe ∷ set TCON 0x40 ∷ []) high 4 (laps 0 1 0) 51
+    ∷ card27 2 1 (set TCON 0x01 ∷ []) lowINT0 3 noLaps 51
+    ∷ card27 3 1 (set TCON 0x04 ∷ []) lowINT1 3 noLaps 51
+    ∷ card27 4 10 (set SCON 0x10 ∷ []) high 12 noLaps 51
+    ∷ card27 5 10 (set SBUF 0xff ∷ []) high 12 noLaps 51
+    ∷ card27 6 2 (set TH2 0xff ∷ set TL2 0xfe ∷ set T2CON 0x04 ∷ []) high 4 (laps 0 0 1) 52
+    ∷ card27 7 1 (set T2CON 0x0c ∷ []) lowT2EX 3 noLaps 52
     ∷ both card28
     ∷ both card29
     ∷ both card29reset
@@ -751,6 +847,13 @@ cards =
     ∷ both (bad 7 255 1)
     ∷ both (good 0 0)
     ∷ both (good 7 0xffffffffffffffff)
+    ∷ both card31
+    ∷ both card32
+    ∷ (card33 ∷ card33reload ∷ card34 ∷ [])
+    ∷ both card35
+    ∷ both (card36 (goes 101 0 34 0 ∷ []))
+    ∷ both (card36 (goes 49 0 16 0 ∷ goes 52 0 18 0 ∷ []))
+    ∷ both (card36 (asked (trace (0x7f000001 ∷ 0x7f000030 ∷ 0x7f000034 ∷ [])) (laps 0 34 0) ∷ []))
     ∷ []
     )
 
@@ -761,5 +864,5 @@ failing (r ∷ rs) = cond (r .test (run (r .calls) (r .start))) (failing rs) (r 
 
 -- no row fails
 cards-hold : failing cards ≡ []
-unfolding sameNumbers sameValue sameReply sameReplies rowFrom card1 card2 card3 card4 baud2 card5 card5counted mode1send card6 card6half card7 card8 card8shift card9 card10 card11 card12 card12line card13 card14 card15 card16 timer2At card17 card17by card17counter card18 card18both card19 card20 card20counter card21 card21again card22 card23 placed rose neverRose timer0Near card24 card25 card26 card26again singles ways card27 timed card28 card29 card29reset card30 bad good both joined cards failing table implementedIn implemented registers hiddenFields accepted pinsOf levelsOf zeros resetOf count13 count16 reload8 count8 hold enabled clocked countIn flagged counts0 counts1 countsHigh0 pair0 high0 highOverflow0 pair1 timerFlags timersStep countOnce countTimes baudRate countsOf2 heedsT2EX captures counted2 baudStep copied2 captureStep timer2Step halfAfter ticks1 ticksOf serialTicks sendMove sendTick sendTicks send lineOf startFound receiveStart receiveRolled receiveCounted votesAdded bitOf frameDone receiveBit receiveWork receiveTick receiveTicks receiveShift receive serialStep writeSbuf receiveAsked writeScon external either seenOf firstOf choice offered inService taken returned falls counted externals timersAfter timer2After ticksIn stepsOf cycleOf cycles resetAnswer valueIn registerAt readAnswer stored writeAnswer cycleAnswer cyclesFault jumpAnswer entryFault firstBad traceFault traceCycles traceAnswer flags anyRises risen noted timesAfter pairsOk never firstCycle lookAnswer wakeAnswer offerOf offerAnswer takeOf takeAnswer returnAnswer play run
+unfolding sameNumbers sameValue sameReply sameReplies rowFrom card1 card2 card3 card4 baud2 card5 card5counted mode1send card6 card6half card7 card8 card8shift card9 card10 card11 card12 card12line card13 card14 card15 card16 timer2At card17 card17by card17counter card18 card18both card19 card20 card20counter card21 card21again card22 card23 placed rose neverRose timer0Near card24 card25 card26 card26again singles ways card27 timed card28 card29 card29reset card30 bad good card31 card32 card33 card33reload card34 card35 card36 both joined cards failing table implementedIn implemented registers hiddenFields accepted pinsOf levelsOf zeros resetOf count13 count16 reload8 count8 hold enabled clocked countIn flagged counts0 counts1 countsHigh0 pair0 high0 highOverflow0 pair1 timerFlags timersStep countOnce countTimes baudRate countsOf2 heedsT2EX captures counted2 baudStep copied2 captureStep timer2Step halfAfter ticks1 ticksOf serialTicks sendMove sendTick sendTicks send lineOf startFound receiveStart receiveRolled receiveCounted votesAdded bitOf frameDone receiveBit receiveWork receiveTick receiveTicks receiveShift receive serialStep writeSbuf receiveAsked writeScon external either seenOf firstOf choice offered inService taken returned falls counted externals timersAfter timer2After ticksIn stepsOf cycleOf cycles resetAnswer valueIn registerAt readAnswer stored writeAnswer cycleAnswer cyclesFault jumpAnswer entryFault firstBad traceFault traceCycles totalsNext totals traceTotals traceAnswer flags anyRises risen noted timesAfter pairsOk never firstCycle lookAnswer wakeAnswer offerOf offerAnswer takeOf takeAnswer returnAnswer play run
 cards-hold = refl

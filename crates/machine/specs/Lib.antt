@@ -10,6 +10,7 @@ pub mod Timer2
 pub mod Serial
 pub mod Interrupts
 pub mod Cycle
+pub mod Totals
 pub mod Rollovers
 pub mod Calls
 pub mod Lists

@@ -1,8 +1,9 @@
 -- Document 01, "The plain machine": a list of calls, the answers to it and the state at its end. Document 02, request One: wake looks
--- are among them.
+-- are among them; request Seven: a jump and a trace run answer three numbers.
 use Prim.Native.Nat.{ℕ}
 use mathlib.Core.List.{List, [], _∷_}
 use Rattle.machine.specs.declared.Device.{Device}
+use Rattle.machine.specs.declared.Totals.{Totals}
 use Rattle.machine.specs.declared.Answer.{Answer}
 use Rattle.machine.specs.declared.RunAnswer.{RunAnswer}
 use Rattle.machine.specs.declared.CycleAnswer.{CycleAnswer}
@@ -53,8 +54,12 @@ says c v = record { code = c; value = v }
 abbrev pub replyOf : Answer → Reply
 replyOf a = says (a .code) nothing
 
+-- a jump and a trace run: the totals of Timers 0, 1 and 2
+abbrev pub listed : Totals → List ℕ
+listed t = t .timer0 ∷ t .timer1 ∷ t .timer2 ∷ []
+
 abbrev pub replyOfRun : RunAnswer → Reply
-replyOfRun a = says (a .code) nothing
+replyOfRun a = says (a .code) (numbers (listed (a .totals)))
 
 abbrev pub replyOfCycle : CycleAnswer → Reply
 replyOfCycle a = says (a .code) (number (a .line))

@@ -136,6 +136,14 @@ pub struct Overflows {
     pub timer2: u8,
 }
 
+// The overflow totals of a jump and of a trace run: of Timer 0, TH0 in mode 3 too, of Timer 1 and of Timer 2.
+#[repr(C)]
+pub struct Totals {
+    pub timer0: u64,
+    pub timer1: u64,
+    pub timer2: u64,
+}
+
 // Step 4: the ticks of the sender and of the receiver, and half after them.
 pub struct Ticks {
     pub send: u8,
@@ -150,9 +158,10 @@ pub struct Answer {
     pub device: Device,
 }
 
-// The answer of a jump and of a trace run: 0 or the refusal's number, and the device.
+// The answer of a jump and of a trace run: 0 and the overflow totals, or the refusal's number and zeros; and the device.
 pub struct RunAnswer {
     pub code: u8,
+    pub totals: Totals,
     pub device: Device,
 }
 

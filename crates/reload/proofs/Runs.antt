@@ -63,12 +63,12 @@ put-idle l n x d f w =
 
 module _ (pins : ℕ) (d : Device) (r : Ranges d) (f : Idle (pinsOf (d .kind) pins) d) where
   -- the device after a cycle
-  next : Device
+  unfoldable pub next : Device
   next =
       let l = pinsOf (d .kind) pins in
       putIdling ((d .cycle + 1) % 2 ^ 64) (idleCycle (clockingOf l d) (idlingOf d)) d
 
-  cycle-next : cycleOf pins d ≡ next
+  pub cycle-next : cycleOf pins d ≡ next
   unfolding next
   cycle-next = cycle-up pins d (f .rest .awake) ∙ steps-idle (pinsOf (d .kind) pins) d r f
 

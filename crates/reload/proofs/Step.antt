@@ -68,7 +68,7 @@ module _ (l : ℕ) (t : Timers) (f : Alone l t) where
 
 -- Step 3
 
-stopped : (t : Timer2) (fell : ℕ) → bit TR2 (t .t2con) ≡ 0 → timer2Step t fell ≡ record { timer2 = t; overflows = 0; tf2 = 0 }
+pub stopped : (t : Timer2) (fell : ℕ) → bit TR2 (t .t2con) ≡ 0 → timer2Step t fell ≡ record { timer2 = t; overflows = 0; tf2 = 0 }
 unfolding timer2Step
 stopped t fell e = simp e
 

@@ -6,12 +6,14 @@ use mathlib.Core.Bool.{Bool, cond, _&&_, _||_, not}
 use lib.Dec.{eqb}
 use Rattle.machine.specs.declared.Timers.{Timers}
 use Rattle.machine.specs.declared.Serial.{Serial}
+use Rattle.machine.specs.declared.Totals.{Totals}
 use Rattle.machine.specs.declared.Device.{Device}
 use Rattle.machine.specs.Bits.{bit}
 use Rattle.machine.specs.Registers.{RXD, SMOD, TF1, TR2, RCLK, TCLK}
 use Rattle.machine.specs.Record.{serialMode}
 use Rattle.machine.specs.Timers.{timer0Mode, timer1Mode, counts0, counts1, countsHigh0}
 use Rattle.machine.specs.Serial.{halfAfter, ticks1, startFound, withSample}
+use Rattle.stretch.specs.Stretch.{lapped}
 use Rattle.strides.specs.Stride.{settledAt, left, usedOf, withParts}
 use Rattle.reload.specs.declared.Clocking.{Clocking}
 use Rattle.reload.specs.declared.Idling.{Idling}
@@ -116,6 +118,10 @@ idleCycles (suc n) k x = idleCycles n k (idleCycle k x)
 -- the device after n cycles
 unfoldable pub idleAt : ℕ → ℕ → Device → Device
 idleAt n l d = putIdling ((d .cycle + n) % 2 ^ 64) (idleCycles n (clockingOf l d) (idlingOf d)) d
+
+-- and the overflows in them: those of Timer 1's n counts over the stretch, in mode 2
+unfoldable pub idleTotals : ℕ → Timers → Totals
+idleTotals n t = record { timer0 = 0; timer1 = lapped n 8 (t .th1) (t .tl1) .overflows; timer2 = 0 }
 
 -- the cycles of a round: the reload, or the counts before it
 unfoldable pub usedIdling : ℕ → Idling → ℕ

@@ -9,6 +9,7 @@ use laws::picked;
 use machine::Device;
 use machine::Serial;
 use machine::Timers;
+use machine::Totals;
 use machine::places::RCLK;
 use machine::places::RXD;
 use machine::places::SMOD;
@@ -57,13 +58,13 @@ pub struct Clocking {
     pub receives: bool,
 }
 
-// What it works on: TL1 and TH1, half, the send counter and the last line sample.
+// What it works on: the last line sample, the send counter, half, TH1 and TL1, in the order in which the loop over them is quickest.
 pub struct Idling {
-    pub tl1: u8,
-    pub th1: u8,
-    pub half: u8,
-    pub counter: u8,
     pub sample: u8,
+    pub counter: u8,
+    pub half: u8,
+    pub th1: u8,
+    pub tl1: u8,
 }
 
 // Timer 1's overflows clock a direction, whose clock bit is handed in.
@@ -177,4 +178,16 @@ pub fn idle(d: Device, l: u8, n: u64) -> Device
         left -= r.used;
     }
     put_idling(std::num::wrapping_add_u64(d.cycle, n), x, d)
+}
+
+// How often the timers overflow in them: Timer 1 as its n counts over the stretch say, and no other.
+pub fn idle_totals(t: Timers, n: u64) -> Totals
+    ensures { λ r. ⌜ r ≡ Reload.idleTotals n t ⌝ }
+{
+    let lapped = stretch::counted_over(8, t.th1 as u32, t.tl1 as u32, n);
+    Totals {
+        timer0: 0,
+        timer1: lapped.overflows,
+        timer2: 0,
+    }
 }

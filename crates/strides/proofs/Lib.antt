@@ -10,5 +10,6 @@ pub mod Runs
 pub mod Strides
 pub mod Overflows
 pub mod Exact
+pub mod Totals
 pub mod Silent
 pub mod Coded

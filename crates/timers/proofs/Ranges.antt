@@ -1,11 +1,12 @@
--- Step 2 keeps ranges: registers that are bytes stay bytes, TMOD and the due marks stay, by cases on what counts.
+-- Step 2 keeps ranges: registers that are bytes stay bytes, TMOD and the due marks stay, by cases on what counts; and TH0 in mode 3
+-- overflows at most once.
 use mathlib.Core.Bool.{cond}
-use Prim.Native.Nat.{ℕ, _<_}
+use Prim.Native.Nat.{ℕ, _<_, _≤_}
 use native.Mathlib.Omega.{arith}
-use lib.Dec.{eqb}
+use lib.Dec.{eqb, lit≤}
 use Rattle.laws.specs.Ranges.{TimersOk}
 use Rattle.machine.proofs.Choices.{chosen}
-use Rattle.machine.proofs.Counting.{next-lt, nextOr-lt}
+use Rattle.machine.proofs.Counting.{next-lt, nextOr-lt, overflow-le}
 use Rattle.laws.proofs.Bits.{flagged-lt}
 use Rattle.machine.specs.Counting.{count13, count16, reload8, count8, hold}
 use Rattle.machine.specs.Timers.{timer0Mode, timer1Mode, countIn, flagged, counts0, counts1, countsHigh0, pair0, high0, highOverflow0, pair1, timerFlags, timersStep}
@@ -87,3 +88,8 @@ module _ (t : Timers) (b : TimersOk t) where
         due0 = b .due0;
         due1 = b .due1;
       }
+
+  pub high-once : (pins : ℕ) → timersStep t pins .«overflow_th0» ≤ 1
+  unfolding timersStep highOverflow0
+  high-once pins =
+      chosen (λ (n : ℕ). n ≤ 1) (countsHigh0 t) _ 0 (overflow-le 8 (pair0 t pins .th) (pair0-counted pins .th)) (lit≤ tt)

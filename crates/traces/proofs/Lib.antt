@@ -1,2 +1,3 @@
 pub mod Keeps
 pub mod Traces
+pub mod Running

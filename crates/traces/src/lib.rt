@@ -2,7 +2,10 @@
 ghost use mathlib.Core.Path.{_≡_};
 ghost use mathlib.Core.Bool.{true};
 ghost use Rattle.machine.specs.Record.{accepted};
-ghost use Rattle.machine.specs.Calls.{entryPins, entryCycles, entryFault, traceFault, traceCycles};
+ghost use Prim.Native.Nat.{_≤_};
+ghost use lib.ListN.{length};
+ghost use Rattle.machine.specs.Calls.{mostEntries, entryPins, entryCycles, entryFault, traceFault, traceCycles, traceTotals};
+use cycle::Run;
 use machine::Device;
 use machine::MOST_ENTRIES;
 use machine::refusals::BAD_PINS;
@@ -52,18 +55,21 @@ pub fn trace_fault(entries: &[u32]) -> u8
     PASSED
 }
 
-// The cycles of each entry in turn, with its pin byte as it is given.
-pub fn run_entries(d: Device, entries: &[u32]) -> Device
-    requires { ⌜ accepted d ≡ true ⌝ }
-    ensures { λ r. ⌜ r ≡ traceCycles (now (entries .entry)) d ⌝ }
+// The cycles of each entry in turn, with its pin byte as it is given, and the overflows in them.
+pub fn run_entries(d: Device, entries: &[u32]) -> Run
+    requires { ⌜ (accepted d ≡ true) × (length (now entries) ≤ mostEntries) ⌝ }
+    ensures { λ r. ⌜ (r .totals ≡ traceTotals (now (entries .entry)) d) × (r .device ≡ traceCycles (now (entries .entry)) d) ⌝ }
 {
-    let mut at = d;
+    let mut run = Run {
+        totals: totals::none(),
+        device: d,
+    };
     let mut i = 0;
     while i < entries.len() {
         let e = entries[i];
-        let pins = cycle::pins_of(at.kind, entry_pins(e));
-        at = jump::advance(at, pins, entry_cycles(e));
+        let pins = cycle::pins_of(run.device.kind, entry_pins(e));
+        run = jump::advance(run, pins, entry_cycles(e));
         i += 1;
     }
-    at
+    run
 }

@@ -1,8 +1,9 @@
 //! The model by other hands as a station's chips. It steps cycle by cycle; what a wake look has stepped, the jump after it takes over, so
 //! that every cycle is stepped once.
-use c51::{Device, Flag};
+use c51::{Device, Flag, Totals};
 use c51model::interval::Interval;
 use c51model::model;
+use compare::pair::totals_of;
 use compare::record::of_model;
 use compare::STAGE;
 use station::chips::{Chips, PASSES};
@@ -11,8 +12,8 @@ use std::cell::Cell;
 pub struct Plain {
     device: model::Device,
     timer: Interval,
-    /// Where the last wake look came to: pins, cycles, and the device there.
-    ahead: Cell<Option<(u8, u64, model::Device)>>,
+    /// Where the last wake look came to: pins, cycles, the device there, and the overflows on the way.
+    ahead: Cell<Option<(u8, u64, model::Device, Totals)>>,
 }
 
 /// A vector, whose high byte is 0.
@@ -45,23 +46,25 @@ impl Chips for Plain {
         self.device.cycle(pins).expect(PASSES)
     }
 
-    fn jump(&mut self, pins: u8, n: u64) {
+    fn jump(&mut self, pins: u8, n: u64) -> Totals {
         match self.ahead.take() {
-            Some((held, stepped, device)) if (held, stepped) == (pins, n) => self.device = device,
-            _ => {
-                self.device.jump(pins, n).expect(PASSES);
+            Some((held, stepped, device, totals)) if (held, stepped) == (pins, n) => {
+                self.device = device;
+                totals
             }
+            _ => totals_of(&self.device.jump(pins, n).expect(PASSES)),
         }
     }
 
     fn wake_look(&self, pins: u8, n: u64) -> Option<u64> {
         let mut device = self.device;
+        let mut totals = Totals::default();
         let mut k = 0;
         while !is_offered(&device) && k < n {
-            device.jump(pins, 1).expect(PASSES);
+            totals += totals_of(&device.jump(pins, 1).expect(PASSES));
             k += 1;
         }
-        self.ahead.set(Some((pins, k, device)));
+        self.ahead.set(Some((pins, k, device, totals)));
         is_offered(&device).then_some(k)
     }
 
@@ -89,9 +92,9 @@ impl Chips for Plain {
         self.cycle(pins)
     }
 
-    fn board_jump(&mut self, pins: u8, gates: u8, n: u64) {
+    fn board_jump(&mut self, pins: u8, gates: u8, n: u64) -> Totals {
         self.timer.pulses(gates, n).expect(PASSES);
-        self.jump(pins, n);
+        self.jump(pins, n)
     }
 
     fn read_interval(&mut self, address: u8) -> u8 {

@@ -3,7 +3,7 @@ use bench::plain::Plain;
 use bench::tight::Idle;
 use c51::{flag, pcon, Board, Device, MAX_CYCLES, PINS_HIGH};
 use station::reader::Reader;
-use station::run::{run, Plan};
+use station::run::{run, Plan, Ran};
 use station::timing::Time;
 use std::process::Command;
 
@@ -42,12 +42,13 @@ fn a_device_at_rest_stays_at_rest() {
     }
 }
 
-/// Also at the stations that have an 82C53, whose times are the same.
+/// Also at the stations that have an 82C53, whose times are the same; and Timer 1 laps as often.
 #[test]
 fn the_plain_chips_read_the_same_tags() {
     let plan = Plan { stations: 3, tags: 6, gap: 5_000, seed: 8, noise: 1, chosen: Vec::new() };
-    let (rows, _) = run::<Board>(&plan, None, |_| ());
-    assert_eq!(run::<Plain>(&plan, None, |_| ()).0, rows);
+    let Ran { rows, laps, .. } = run::<Board>(&plan, None, |_| ());
+    let plain = run::<Plain>(&plan, None, |_| ());
+    assert_eq!((plain.rows, plain.laps), (rows.clone(), laps));
     assert_eq!(rows.iter().filter(|row| matches!(row.time, Some(Time::Took(_)))).count(), 4);
     assert!(rows.iter().all(|row| row.last_digit.is_some_and(|cycle| cycle < row.cycle)), "{rows:?}");
 }

@@ -1,5 +1,14 @@
 //! The calls of a board that has both chips.
-use crate::{answer, raw, Board, Device, Interval, Refusal};
+use crate::{answer, raw, Board, Device, Interval, Refusal, Totals};
+
+/// What a jump of the board gives.
+#[derive(Clone, Copy, PartialEq, Eq, Debug)]
+pub struct BoardJump {
+    /// How often each timer of the chip overflowed.
+    pub totals: Totals,
+    /// The outputs of the 82C53 as the jump leaves them.
+    pub outputs: u8,
+}
 
 impl Board {
     /// Both chips after reset, the device of kind 51 or 52.
@@ -29,23 +38,27 @@ impl Board {
         answer(a.code, (a.line, a.outputs))
     }
 
-    /// n cycles and n pulses with one pin byte and one gate byte; gives the outputs as they leave them.
+    /// n cycles and n pulses with one pin byte and one gate byte.
     ///
     /// ```
-    /// use c51::{control, out, port, Board, GATES_HIGH, PINS_HIGH};
+    /// use c51::{address, control, out, port, Board, GATES_HIGH, PINS_HIGH};
     ///
     /// let mut board = Board::reset(51)?;
+    /// board.device.write(address::TMOD, 0x01)?; // Timer 0 in mode 1, which overflows in cycle 65,536
+    /// board.device.write(address::TCON, 0x10)?; // run
     /// board.interval.write(port::CONTROL, control::SELECT1 | control::BOTH | control::MODE0)?;
     /// board.interval.write(port::COUNTER1, 0)?;
     /// board.interval.write(port::COUNTER1, 0)?; // 65,536
-    /// assert_eq!(board.jump(PINS_HIGH, GATES_HIGH, 65_536)?, 0); // one of them loads
-    /// assert_eq!(board.jump(PINS_HIGH, GATES_HIGH, 1)?, out::OUT1);
+    /// let jumped = board.jump(PINS_HIGH, GATES_HIGH, 65_536)?;
+    /// assert_eq!((jumped.totals.timer0, jumped.outputs), (1, 0)); // one of the pulses loads
+    /// let jumped = board.jump(PINS_HIGH, GATES_HIGH, 1)?;
+    /// assert_eq!((jumped.totals.timer0, jumped.outputs), (0, out::OUT1));
     /// assert_eq!(board.device.cycle, 65_537);
     /// # Ok::<(), c51::Refusal>(())
     /// ```
     #[inline]
-    pub fn jump(&mut self, pins: u8, gates: u8, n: u64) -> Result<u8, Refusal> {
+    pub fn jump(&mut self, pins: u8, gates: u8, n: u64) -> Result<BoardJump, Refusal> {
         let a = raw::c51_board_jump(self, pins, gates, n);
-        answer(a.code, a.outputs)
+        answer(a.code, BoardJump { totals: a.totals, outputs: a.outputs })
     }
 }

@@ -24,10 +24,12 @@ mod board;
 mod interval;
 pub mod raw;
 mod speed;
+mod totals;
 
+pub use board::BoardJump;
 pub use raw::{AnswerRow, CallRow, ANSWER_WORDS, CALL_WORDS, NONE};
 pub use raw::{Board, Counter, Interval};
-pub use raw::{Device, FlagTimes, Interrupts, Receiver, Sender, Serial, Timer2, Timers};
+pub use raw::{Device, FlagTimes, Interrupts, Receiver, Sender, Serial, Timer2, Timers, Totals};
 pub use speed::{speed, Speed, MAX_CRYSTAL, MAX_RATE, MAX_TOLERANCE};
 
 /// All pins at 1.
@@ -274,15 +276,29 @@ impl Device {
         answer(a.code, a.line)
     }
 
-    /// n cycles with one pin byte.
+    /// n cycles with one pin byte; gives how often each timer overflowed in them. A timer that laps every third cycle:
+    ///
+    /// ```
+    /// use c51::{address, Device, Totals, PINS_HIGH};
+    ///
+    /// let mut device = Device::reset(52)?;
+    /// device.write(address::TMOD, 0x20)?; // Timer 1 in mode 2
+    /// device.write(address::TH1, 0xFD)?; // reload
+    /// device.write(address::TL1, 0xFE)?; // the first lap is a cycle shorter
+    /// device.write(address::TCON, 0x40)?; // run
+    /// assert_eq!(device.jump(PINS_HIGH, 101)?, Totals { timer1: 34, ..Totals::default() });
+    /// # Ok::<(), c51::Refusal>(())
+    /// ```
     #[inline]
-    pub fn jump(&mut self, pins: u8, n: u64) -> Result<(), Refusal> {
-        answer(raw::c51_jump(self, pins, n), ())
+    pub fn jump(&mut self, pins: u8, n: u64) -> Result<Totals, Refusal> {
+        let a = raw::c51_jump(self, pins, n);
+        answer(a.code, a.totals)
     }
 
-    /// Runs a trace: in each entry the pin byte on top and the cycles in the low 24 bits.
-    pub fn trace(&mut self, entries: &[u32]) -> Result<(), Refusal> {
-        answer(raw::trace(self, entries), ())
+    /// Runs a trace: in each entry the pin byte on top and the cycles in the low 24 bits. Gives what a jump gives.
+    pub fn trace(&mut self, entries: &[u32]) -> Result<Totals, Refusal> {
+        let a = raw::trace(self, entries);
+        answer(a.code, a.totals)
     }
 
     /// The first of the next n cycles in which a flag rises under this pin byte.
@@ -393,11 +409,11 @@ impl Device {
     /// past them stay as they were.
     ///
     /// The arguments of a call are those of the method, in its order, but of a trace the start and the end of its part
-    /// of `entries`. A refused call that gives a number gives 0. It leaves the device, but a refused reset leaves the
-    /// record of zeros.
+    /// of `entries`. A jump and a trace give three numbers, the totals of Timers 0, 1 and 2. A refused call gives 0 for each
+    /// number that it would give. It leaves the device, but a refused reset leaves the record of zeros.
     ///
     /// ```
-    /// use c51::{address, call, Device, NONE, PINS_HIGH};
+    /// use c51::{address, call, Device, ANSWER_WORDS, NONE, PINS_HIGH};
     ///
     /// let calls = [
     ///     [call::RESET, 52, 0],
@@ -405,17 +421,20 @@ impl Device {
     ///     [call::TRACE, 0, 2],                       // both entries
     ///     [call::LOOK, PINS_HIGH.into(), 100],
     ///     [call::LOOK, PINS_HIGH.into(), 10_000],
-    ///     [call::TAKE, 0, 0],
+    ///     [call::JUMP, PINS_HIGH.into(), 10_000],
+    ///     [call::JUMP, 0x80, 10_000],
     /// ];
     /// let entries = [0x7F00_0001, 0x7E00_0001];
-    /// let mut answers = [[0; 3]; 6];
+    /// let mut answers = [[0; ANSWER_WORDS]; 7];
     /// let mut device = Device::default();
     /// device.replay(&calls, &entries, &mut answers);
-    /// assert_eq!(device.cycle, 2);
-    /// assert_eq!(answers[..3], [[0, 0, 0]; 3]); // passed
-    /// assert_eq!(answers[3], [0, NONE, 0]); // no flag rises in 100 cycles
-    /// assert_eq!(answers[4], [0, 1, 8_190]); // TF0 rises in cycle 8,190
-    /// assert_eq!(answers[5], [6, 1, 0]); // refused: nothing is offered
+    /// assert_eq!(device.cycle, 10_002);
+    /// assert_eq!(answers[..2], [[0, 0, 0, 0, 0]; 2]); // passed
+    /// assert_eq!(answers[2], [0, 3, 0, 0, 0]); // no timer overflows in two cycles
+    /// assert_eq!(answers[3], [0, NONE, 0, 0, 0]); // no flag rises in 100
+    /// assert_eq!(answers[4], [0, 1, 8_190, 0, 0]); // TF0 rises in cycle 8,190
+    /// assert_eq!(answers[5], [0, 3, 1, 0, 0]); // Timer 0 overflows in it, and in no other of 10,000
+    /// assert_eq!(answers[6], [4, 3, 0, 0, 0]); // refused: bit 7 of the pin byte is set
     /// ```
     pub fn replay(&mut self, calls: &[CallRow], entries: &[u32], answers: &mut [AnswerRow]) {
         raw::replay(self, calls.as_flattened(), entries, answers.as_flattened_mut());

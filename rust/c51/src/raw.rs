@@ -184,7 +184,27 @@ pub struct LookAnswer {
     pub at: u64,
 }
 
-/// Pulses of the 82C53, and a jump of the board.
+/// The overflows of each timer in the cycles of a jump or a trace run: all 0 in power-down, and where it has no cycles.
+/// In mode 3 those of TH0 are Timer 0's too, so that a cycle may add 2. Those of Timer 1 count also where they set no
+/// flag, Timer 0 being in mode 3. Timer 2 has up to 6 a cycle as a baud rate generator; a reload by T2EX is none, and
+/// kind 51 has none.
+#[repr(C)]
+#[derive(Clone, Copy, PartialEq, Eq, Debug, Default)]
+pub struct Totals {
+    pub timer0: u64,
+    pub timer1: u64,
+    pub timer2: u64,
+}
+
+/// A jump or a trace run.
+#[repr(C)]
+#[derive(Clone, Copy, PartialEq, Eq, Debug)]
+pub struct RunAnswer {
+    pub code: u8,
+    pub totals: Totals,
+}
+
+/// Pulses of the 82C53.
 #[repr(C)]
 #[derive(Clone, Copy, PartialEq, Eq, Debug)]
 pub struct OutputsAnswer {
@@ -201,6 +221,15 @@ pub struct BoardAnswer {
     pub outputs: u8,
 }
 
+/// A jump of the board.
+#[repr(C)]
+#[derive(Clone, Copy, PartialEq, Eq, Debug)]
+pub struct BoardJumpAnswer {
+    pub code: u8,
+    pub outputs: u8,
+    pub totals: Totals,
+}
+
 /// A speed.
 #[repr(C)]
 #[derive(Clone, Copy, PartialEq, Eq, Debug)]
@@ -214,20 +243,20 @@ pub struct SpeedAnswer {
 
 /// The words of a call in a list, and of its answer.
 pub const CALL_WORDS: usize = 3;
-pub const ANSWER_WORDS: usize = 3;
+pub const ANSWER_WORDS: usize = 5;
 /// In place of how many numbers an answer gives: an offer, a look ahead or a wake look that passed and found none.
 pub const NONE: u64 = u64::MAX;
 
 /// A call in a list: its number (see [`call`](crate::call)), and two arguments.
 pub type CallRow = [u64; CALL_WORDS];
-/// An answer in a list: its code, how many numbers it gives or [`NONE`], and the number or 0.
+/// An answer in a list: its code, how many numbers it gives or [`NONE`], and the numbers, 0 past those given.
 pub type AnswerRow = [u64; ANSWER_WORDS];
 
 // Sound as safe functions: the library is proved to answer every content, and a reference is only used during the call.
 unsafe extern "C" {
     pub safe fn c51_write(device: &mut Device, address: u8, value: u8) -> u8;
     pub safe fn c51_cycle(device: &mut Device, pins: u8) -> LineAnswer;
-    pub safe fn c51_jump(device: &mut Device, pins: u8, n: u64) -> u8;
+    pub safe fn c51_jump(device: &mut Device, pins: u8, n: u64) -> RunAnswer;
     pub safe fn c51_take(device: &mut Device) -> VectorAnswer;
     pub safe fn c51_return(device: &mut Device) -> u8;
     pub safe fn c51_reset(kind: u8) -> Answer;
@@ -244,9 +273,9 @@ unsafe extern "C" {
     pub safe fn c53_outputs(interval: Interval) -> u8;
     pub safe fn c53_accepts(interval: Interval) -> u8;
     pub safe fn c51_board_cycle(board: &mut Board, pins: u8, gates: u8) -> BoardAnswer;
-    pub safe fn c51_board_jump(board: &mut Board, pins: u8, gates: u8, n: u64) -> OutputsAnswer;
+    pub safe fn c51_board_jump(board: &mut Board, pins: u8, gates: u8, n: u64) -> BoardJumpAnswer;
     pub safe fn c51_speed(crystal: u64, rate: u64, tolerance: u64) -> SpeedAnswer;
-    fn c51_trace(device: &mut Device, entries: *const u32, count: usize) -> u8;
+    fn c51_trace(device: &mut Device, entries: *const u32, count: usize) -> RunAnswer;
     fn c51_replay(
         device: &mut Device,
         calls: *const u64,
@@ -259,7 +288,7 @@ unsafe extern "C" {
 }
 
 /// `c51_trace` over a slice.
-pub fn trace(device: &mut Device, entries: &[u32]) -> u8 {
+pub fn trace(device: &mut Device, entries: &[u32]) -> RunAnswer {
     // The pointer and the length are those of one slice.
     unsafe { c51_trace(device, entries.as_ptr(), entries.len()) }
 }

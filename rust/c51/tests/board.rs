@@ -1,7 +1,8 @@
 //! The 82C53 and the board that has both chips: what each counter does, each refusal and what it leaves, and jumps against single
 //! pulses and cycles.
+use c51::raw::{c51_board_jump, BoardJumpAnswer};
 use c51::{address, control, flag, gate, out, pcon, port};
-use c51::{Board, Counter, Device, Flag, Interval, Refusal, GATES_HIGH, MAX_CYCLES, PINS_HIGH};
+use c51::{Board, BoardJump, Counter, Device, Flag, Interval, Refusal, Totals, GATES_HIGH, MAX_CYCLES, PINS_HIGH};
 
 const MODE0: u8 = control::BOTH | control::MODE0;
 const MODE2: u8 = control::BOTH | control::MODE2;
@@ -368,10 +369,22 @@ fn the_ranges_of_the_record() {
     assert_eq!(interval.outputs(), out::OUT0 | out::OUT2);
 }
 
-/// A board whose counters all count: 0 in mode 0, 1 in mode 2, 2 in mode 2 and BCD; Timer 0 about to overflow.
+/// A board whose counters all count: 0 in mode 0, 1 in mode 2, 2 in mode 2 and BCD; Timer 0 about to overflow, Timer 1 in
+/// mode 2, and Timer 2 as a baud rate generator with two overflows a cycle.
 fn counting_board() -> Board {
     let mut board = Board::reset(52).unwrap();
-    for (address, value) in [(address::TMOD, 0x01), (address::TH0, 0xFF), (address::TL0, 0xF0), (address::TCON, 0x10)] {
+    for (address, value) in [
+        (address::TMOD, 0x21),
+        (address::TH0, 0xFF),
+        (address::TL0, 0xF0),
+        (address::TH1, 0xF9),
+        (address::RCAP2H, 0xFF),
+        (address::RCAP2L, 0xFD),
+        (address::TH2, 0xFF),
+        (address::TL2, 0xFD),
+        (address::T2CON, 0x34),
+        (address::TCON, 0x50),
+    ] {
         board.device.write(address, value).unwrap();
     }
     for (address, byte) in [
@@ -401,28 +414,43 @@ fn refusals_of_the_board() {
     assert_eq!(board.jump(PINS_HIGH, 0xFF, 0), Err(Refusal::BadPins));
     assert_eq!(board.jump(PINS_HIGH, 8, MAX_CYCLES + 1), Err(Refusal::BadPins));
     assert_eq!(board.jump(PINS_HIGH, GATES_HIGH, MAX_CYCLES + 1), Err(Refusal::TooLong));
+    for (pins, gates, n, code) in [(0x80, 7, 9, 4), (0x7F, 8, 9, 4), (0x7F, 7, MAX_CYCLES + 1, 5)] {
+        let refused = BoardJumpAnswer { code, outputs: 0, totals: Totals::default() };
+        assert_eq!(c51_board_jump(&mut board, pins, gates, n), refused, "zeros beside the code");
+    }
     assert_eq!(board, given);
 }
 
-/// A cycle of the board is one of the chip and a pulse, and a jump ends as so many of them do.
+/// A cycle of the board is one of the chip and a pulse, and a jump ends as so many of them do. Its totals are those of so
+/// many jumps of 1, and of the chip alone.
 #[test]
 fn a_board_jump_is_so_many_board_cycles() {
     for (pins, gates) in [(PINS_HIGH, GATES_HIGH), (0, GATES_HIGH), (PINS_HIGH, 0), (0x55, gate::GATE1), (PINS_HIGH, 0x05)] {
-        let mut cycled = counting_board();
+        let [mut cycled, mut by_ones] = [counting_board(); 2];
         let (mut device, mut interval) = (cycled.device, cycled.interval);
+        let mut totals = Totals::default();
         for n in 0..400 {
             let mut jumped = counting_board();
-            assert_eq!(jumped.jump(pins, gates, n), Ok(cycled.interval.outputs()), "{n} cycles, pins {pins:02X}, gates {gates}");
+            let given = jumped.jump(pins, gates, n);
+            assert_eq!(
+                given,
+                Ok(BoardJump { totals, outputs: cycled.interval.outputs() }),
+                "{n} cycles, pins {pins:02X}, gates {gates}"
+            );
+            assert_eq!(counting_board().device.jump(pins, n), Ok(totals), "{n} cycles, pins {pins:02X}");
             assert_eq!(jumped, cycled, "{n} cycles, pins {pins:02X}, gates {gates}");
             let (line, outputs) = cycled.cycle(pins, gates).unwrap();
             assert_eq!((line, outputs), (device.cycle(pins).unwrap(), interval.pulse(gates).unwrap()));
             assert_eq!(cycled, Board { device, interval });
+            totals += by_ones.jump(pins, gates, 1).unwrap().totals;
+            assert_eq!(by_ones, cycled);
         }
+        assert_eq!(totals, Totals { timer0: 1, timer1: 1 + (400 - 256) / 7, timer2: 2 * 400 }, "Timer 1 from 00, and then from F9");
         assert_eq!(cycled.device.timers.tcon & flag::TF0, flag::TF0, "Timer 0 has overflowed");
         assert_eq!(cycled.device.last_rise(Flag::Tf0), Some(16), "from FFF0");
     }
     let mut board = Board { device: Device::reset(51).unwrap(), ..counting_board() };
-    board.jump(PINS_HIGH, GATES_HIGH, MAX_CYCLES).unwrap();
+    assert_eq!(board.jump(PINS_HIGH, GATES_HIGH, MAX_CYCLES).unwrap().totals, Totals::default(), "a chip at rest");
     assert_eq!(board.device.cycle, MAX_CYCLES);
     let mut interval = counting_board().interval;
     interval.jump(GATES_HIGH, MAX_CYCLES / 2).unwrap();
@@ -442,7 +470,8 @@ fn power_down_stops_the_chip_alone() {
     for _ in 0..60 {
         assert_eq!(board.cycle(0, GATES_HIGH), Ok((1, interval.pulse(GATES_HIGH).unwrap())));
     }
-    assert_eq!(board.jump(0, GATES_HIGH, MAX_CYCLES), interval.jump(GATES_HIGH, MAX_CYCLES));
+    let outputs = interval.jump(GATES_HIGH, MAX_CYCLES).unwrap();
+    assert_eq!(board.jump(0, GATES_HIGH, MAX_CYCLES), Ok(BoardJump { totals: Totals::default(), outputs }));
     assert_eq!(board, Board { device, interval });
     assert_eq!(board.interval.read(port::COUNTER1), interval.read(port::COUNTER1));
     board.interval.write(port::CONTROL, control::SELECT1 | control::LATCH).unwrap();

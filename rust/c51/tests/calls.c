@@ -1,5 +1,5 @@
 /* Every call of the library once from C, with an answer that the bench cards and the table of refusals give; when flags last rose;
- * and lists of calls. */
+ * how often timers overflowed; and lists of calls. */
 #include <c51.h>
 #include <stdio.h>
 #include <string.h>
@@ -56,7 +56,7 @@ static void calls(void) {
     check(c51_cycle(&device, 0x80).code == C51_BAD_PINS && device.cycle == 1, "cycle refused");
     check(c51_offer(device).offered == 0, "nothing offered");
     check(c51_take(&device).code == C51_NOTHING_OFFERED, "take refused");
-    check(c51_jump(&device, C51_PINS_HIGH, 2) == C51_PASSED && device.cycle == 3, "jump");
+    check(c51_jump(&device, C51_PINS_HIGH, 2).code == C51_PASSED && device.cycle == 3, "jump");
 
     c51_offer_answer offer = c51_offer(device);
     check(offer.code == C51_PASSED && offer.offered == 1 && offer.vector == 0x0B, "offer");
@@ -71,15 +71,16 @@ static void calls(void) {
     check(c51_return(&device) == C51_NOTHING_IN_SERVICE && same(&device, &before), "return refused");
 
     const uint32_t trace[3] = {0x7F000064u, 0x7E000001u, 0x7F000000u};
-    check(c51_trace(&device, trace, 0) == C51_PASSED && same(&device, &before), "trace of no entries");
-    check(c51_trace(&device, trace, 3) == C51_EMPTY_ENTRY && same(&device, &before), "trace refused");
-    check(c51_trace(&device, trace, 2) == C51_PASSED && device.cycle == 104 && device.levels[0] == 0, "trace");
+    check(c51_trace(&device, trace, 0).code == C51_PASSED && same(&device, &before), "trace of no entries");
+    check(c51_trace(&device, trace, 3).code == C51_EMPTY_ENTRY && same(&device, &before), "trace refused");
+    check(c51_trace(&device, trace, 2).code == C51_PASSED && device.cycle == 104 && device.levels[0] == 0, "trace");
 
     check(c51_write(&device, C51_PCON, C51_PCON_PD | C51_PCON_IDL) == C51_PASSED, "the write that sets PD");
     before = device;
     check(c51_cycle(&device, 0).code == C51_PASSED && c51_cycle(&device, 0).line == 1, "cycle in power-down");
-    check(c51_jump(&device, 0, C51_MAX_CYCLES) == C51_PASSED, "jump in power-down");
-    check(c51_trace(&device, trace, 2) == C51_PASSED && c51_trace(&device, trace, 3) == C51_EMPTY_ENTRY, "trace in power-down");
+    check(c51_jump(&device, 0, C51_MAX_CYCLES).code == C51_PASSED, "jump in power-down");
+    check(c51_trace(&device, trace, 2).code == C51_PASSED, "trace in power-down");
+    check(c51_trace(&device, trace, 3).code == C51_EMPTY_ENTRY, "trace refused in power-down");
     check(c51_offer(device).code == C51_PASSED && c51_offer(device).offered == 0, "offer in power-down");
     wake = c51_wake(device, 0, C51_MAX_CYCLES);
     check(wake.code == C51_PASSED && wake.found == 0, "wake look in power-down");
@@ -111,25 +112,26 @@ static void rises(void) {
     before = jumped = device;
     check(c51_cycle(&device, C51_PINS_HIGH).code == C51_PASSED && C51_EVER_ROSE(device, C51_FLAG_TF0) == 0, "not in cycle 1");
     check(c51_cycle(&device, C51_PINS_HIGH).code == C51_PASSED && alone(&device, C51_FLAG_TF0, 2), "TF0 rises in cycle 2");
-    check(c51_jump(&jumped, C51_PINS_HIGH, 2) == C51_PASSED && same(&jumped, &device), "a jump leaves what single cycles leave");
+    check(c51_jump(&jumped, C51_PINS_HIGH, 2).code == C51_PASSED && same(&jumped, &device), "a jump leaves what single cycles leave");
 
     check(c51_cycle(&device, 0x80).code == C51_BAD_PINS, "cycle refused");
-    check(c51_jump(&device, C51_PINS_HIGH, C51_MAX_CYCLES + 1) == C51_TOO_LONG, "jump refused");
+    check(c51_jump(&device, C51_PINS_HIGH, C51_MAX_CYCLES + 1).code == C51_TOO_LONG, "jump refused");
     check(c51_write(&device, 0, 0) == C51_BAD_ADDRESS && c51_take(&device).code == C51_NOTHING_OFFERED, "write and take refused");
     check(same(&device, &jumped), "refused calls keep the numbers");
-    check(c51_jump(&device, C51_PINS_HIGH, 65536) == C51_PASSED && alone(&device, C51_FLAG_TF0, 2), "TF0 is set again: no rise");
+    check(c51_jump(&device, C51_PINS_HIGH, 65536).code == C51_PASSED && alone(&device, C51_FLAG_TF0, 2), "TF0 is set again: no rise");
     check(c51_write(&device, C51_TCON, 0x10) == C51_PASSED && alone(&device, C51_FLAG_TF0, 2), "a write clears it");
-    check(c51_jump(&device, C51_PINS_HIGH, 65536) == C51_PASSED && alone(&device, C51_FLAG_TF0, 131074), "the later of two rises");
+    check(c51_jump(&device, C51_PINS_HIGH, 65536).code == C51_PASSED && alone(&device, C51_FLAG_TF0, 131074), "the later of two rises");
     check(c51_write(&device, C51_PCON, C51_PCON_PD) == C51_PASSED, "power-down");
-    check(c51_jump(&device, 0, C51_MAX_CYCLES) == C51_PASSED && alone(&device, C51_FLAG_TF0, 131074), "power-down keeps it");
+    check(c51_jump(&device, 0, C51_MAX_CYCLES).code == C51_PASSED && alone(&device, C51_FLAG_TF0, 131074), "power-down keeps it");
 
     device = before;
-    check(c51_write(&device, C51_TCON, 0x30) == C51_PASSED && c51_jump(&device, C51_PINS_HIGH, 9) == C51_PASSED, "TF0 by software");
+    check(c51_write(&device, C51_TCON, 0x30) == C51_PASSED, "TF0 by software");
+    check(c51_jump(&device, C51_PINS_HIGH, 9).code == C51_PASSED, "and set again by the overflow");
     check(memcmp(&device.times, &reset.times, sizeof device.times) == 0, "a write never counts");
 
     device = before;
     device.cycle = UINT64_MAX - 1;
-    check(c51_jump(&device, C51_PINS_HIGH, 2) == C51_PASSED && device.cycle == 0, "the cycle number wraps");
+    check(c51_jump(&device, C51_PINS_HIGH, 2).code == C51_PASSED && device.cycle == 0, "the cycle number wraps");
     check(alone(&device, C51_FLAG_TF0, 0), "and the number with it");
 
     for (i = C51_FLAG_TF0; i <= C51_FLAG_EXF2; i++) {
@@ -147,13 +149,74 @@ static void rises(void) {
     }
 }
 
+static int are(c51_totals totals, uint64_t timer0, uint64_t timer1, uint64_t timer2) {
+    return totals.timer0 == timer0 && totals.timer1 == timer1 && totals.timer2 == timer2;
+}
+
+/* A device of kind 52 after these writes, each an address and a value, up to one at 0. */
+static c51_device written(const uint8_t (*writes)[2]) {
+    c51_device device = c51_reset(52).device;
+    for (; (*writes)[0] != 0; writes++) check(c51_write(&device, (*writes)[0], (*writes)[1]) == C51_PASSED, "write");
+    return device;
+}
+
+static void totals(void) {
+    /* Timer 1 in mode 2: the third card of document 01, in one jump and in two. */
+    static const uint8_t third_card[][2] = {{C51_TMOD, 0x20}, {C51_TH1, 0xFD}, {C51_TL1, 0xFE}, {C51_TCON, 0x40}, {0, 0}};
+    /* Timer 0 in mode 3, TL0 and TH0 at FF. */
+    static const uint8_t mode_3[][2] = {{C51_TMOD, 0x03}, {C51_TL0, 0xFF}, {C51_TH0, 0xFF}, {C51_TCON, 0x50}, {0, 0}};
+    /* Timer 2 as a baud rate generator, its count and RCAP2 at FFFD. */
+    static const uint8_t baud[][2] = {{C51_RCAP2H, 0xFF}, {C51_RCAP2L, 0xFD}, {C51_TH2, 0xFF},
+                                      {C51_TL2, 0xFD},    {C51_T2CON, 0x24},  {0, 0}};
+    const uint32_t trace[2] = {0x7F000063u, 0x7F000002u}, bad[2] = {0x7F000063u, 0x7F000000u};
+    c51_device given = written(third_card), device = given, jumped = given;
+    c51_run_answer run = c51_jump(&device, C51_PINS_HIGH, 101), rest;
+    check(run.code == C51_PASSED && are(run.totals, 0, 34, 0) && device.timers.tl1 == 0xFD, "34 overflows in 101 cycles");
+    run = c51_jump(&jumped, C51_PINS_HIGH, 1);
+    rest = c51_jump(&jumped, C51_PINS_HIGH, 100);
+    check(are(run.totals, 0, 0, 0) && are(rest.totals, 0, 34, 0) && same(&jumped, &device), "a jump of 1 and one of 100");
+    jumped = given;
+    run = c51_jump(&jumped, C51_PINS_HIGH, 50);
+    rest = c51_jump(&jumped, C51_PINS_HIGH, 51);
+    check(are(run.totals, 0, 17, 0) && are(rest.totals, 0, 17, 0) && same(&jumped, &device), "jumps of 50 and 51");
+    jumped = given;
+    run = c51_trace(&jumped, trace, 2);
+    check(run.code == C51_PASSED && are(run.totals, 0, 34, 0) && same(&jumped, &device), "entries of 99 and 2 cycles");
+
+    jumped = given;
+    check(are(c51_jump(&jumped, C51_PINS_HIGH, 0).totals, 0, 0, 0) && same(&jumped, &given), "an empty jump");
+    check(are(c51_trace(&jumped, trace, 0).totals, 0, 0, 0) && same(&jumped, &given), "an empty trace");
+    run = c51_jump(&jumped, 0x80, 101);
+    check(run.code == C51_BAD_PINS && are(run.totals, 0, 0, 0), "totals of a jump refused by 4");
+    run = c51_jump(&jumped, C51_PINS_HIGH, C51_MAX_CYCLES + 1);
+    check(run.code == C51_TOO_LONG && are(run.totals, 0, 0, 0), "totals of a jump refused by 5");
+    run = c51_trace(&jumped, bad, 2);
+    check(run.code == C51_EMPTY_ENTRY && are(run.totals, 0, 0, 0) && same(&jumped, &given), "totals of a trace refused by 8");
+    jumped.kind = 0;
+    run = c51_jump(&jumped, C51_PINS_HIGH, 101);
+    check(run.code == C51_BAD_RECORD && are(run.totals, 0, 0, 0), "totals of a jump refused by 1");
+    jumped = given;
+    check(c51_write(&jumped, C51_PCON, C51_PCON_PD) == C51_PASSED, "power-down");
+    run = c51_jump(&jumped, C51_PINS_HIGH, 101);
+    rest = c51_trace(&jumped, trace, 2);
+    check(run.code == C51_PASSED && are(run.totals, 0, 0, 0) && are(rest.totals, 0, 0, 0), "totals in power-down");
+
+    device = written(mode_3);
+    check(are(c51_jump(&device, C51_PINS_HIGH, 1).totals, 2, 0, 0), "TL0 and TH0 overflow in one cycle");
+    check(are(c51_jump(&device, C51_PINS_HIGH, 256).totals, 2, 0, 0), "and in one of the next 256");
+    device = written(baud);
+    check(are(c51_jump(&device, C51_PINS_HIGH, 1).totals, 0, 0, 2), "two overflows of Timer 2 in a cycle");
+    check(are(c51_jump(&device, C51_PINS_HIGH, 1000).totals, 0, 0, 2000), "and in each of 1,000");
+}
+
 /* A call of a list, and its answer. */
 typedef struct {
     uint64_t call[C51_CALL_WORDS];
     uint64_t answer[C51_ANSWER_WORDS];
 } called;
 
-/* The interrupt of Timer 0 once more, from a record of zeros, with every form of an answer. An argument counts by its low 8 bits. */
+/* The interrupt of Timer 0 once more, from a record of zeros, with every form of an answer, whose last words are 0 where they are left
+ * out. An argument counts by its low 8 bits. */
 static const called interrupt[] = {
     {{C51_CALL_OFFER, 0, 0}, {C51_BAD_RECORD, 1, 0}},
     {{C51_CALL_RESET, 0x100 + 52, 0}, {C51_PASSED, 0, 0}},
@@ -173,13 +236,13 @@ static const called interrupt[] = {
     {{C51_CALL_WAKE, C51_PINS_HIGH, C51_MAX_CYCLES + 1}, {C51_TOO_LONG, 1, 0}},
     {{C51_CALL_CYCLE, C51_PINS_HIGH, 0}, {C51_PASSED, 1, 1}},
     {{C51_CALL_CYCLE, 0x80, 0}, {C51_BAD_PINS, 1, 0}},
-    {{C51_CALL_JUMP, C51_PINS_HIGH, C51_MAX_CYCLES + 1}, {C51_TOO_LONG, 0, 0}},
-    {{C51_CALL_JUMP, C51_PINS_HIGH, 1}, {C51_PASSED, 0, 0}},
+    {{C51_CALL_JUMP, C51_PINS_HIGH, C51_MAX_CYCLES + 1}, {C51_TOO_LONG, 3, 0, 0, 0}},
+    {{C51_CALL_JUMP, C51_PINS_HIGH, 1}, {C51_PASSED, 3, 1, 0, 0}},
     {{C51_CALL_OFFER, 0, 0}, {C51_PASSED, C51_NONE, 0}},
-    {{C51_CALL_TRACE, 0, 2}, {C51_EMPTY_ENTRY, 0, 0}},
-    {{C51_CALL_TRACE, 1, 2}, {C51_PASSED, 0, 0}},
-    {{C51_CALL_TRACE, 1, 0}, {C51_PASSED, 0, 0}}, /* not in order: empty */
-    {{C51_CALL_TRACE, 0, 3}, {C51_PASSED, 0, 0}}, /* not in range: empty */
+    {{C51_CALL_TRACE, 0, 2}, {C51_EMPTY_ENTRY, 3, 0, 0, 0}},
+    {{C51_CALL_TRACE, 1, 2}, {C51_PASSED, 3, 0, 0, 0}},
+    {{C51_CALL_TRACE, 1, 0}, {C51_PASSED, 3, 0, 0, 0}}, /* not in order: empty */
+    {{C51_CALL_TRACE, 0, 3}, {C51_PASSED, 3, 0, 0, 0}}, /* not in range: empty */
     {{C51_CALL_OFFER, 0, 0}, {C51_PASSED, 1, 0x0B}},
     {{C51_CALL_TAKE, 0, 0}, {C51_PASSED, 1, 0x0B}},
     {{C51_CALL_TAKE, 0, 0}, {C51_NOTHING_OFFERED, 1, 0}},
@@ -189,7 +252,7 @@ static const called interrupt[] = {
     {{C51_CALL_WRITE, C51_PCON, 0}, {C51_POWERED_DOWN, 0, 0}},
     {{C51_CALL_TAKE, 0, 0}, {C51_POWERED_DOWN, 1, 0}},
     {{C51_CALL_RETURN, 0, 0}, {C51_POWERED_DOWN, 0, 0}},
-    {{C51_CALL_JUMP, C51_PINS_HIGH, C51_MAX_CYCLES}, {C51_PASSED, 0, 0}},
+    {{C51_CALL_JUMP, C51_PINS_HIGH, C51_MAX_CYCLES}, {C51_PASSED, 3, 0, 0, 0}},
     {{C51_CALL_CYCLE, C51_PINS_HIGH, 0}, {C51_PASSED, 1, 1}},
     {{C51_CALL_WAKE, C51_PINS_HIGH, 0}, {C51_PASSED, C51_NONE, 0}},
 };
@@ -202,6 +265,7 @@ static void lists(void) {
     size_t i;
     char what[40];
     for (i = 0; i < CALLS; i++) memcpy(calls + i * C51_CALL_WORDS, interrupt[i].call, sizeof interrupt[i].call);
+    memset(answers, 0x55, sizeof answers);
     c51_replay(&device, calls, CALLS * C51_CALL_WORDS, entries, 2, answers, CALLS * C51_ANSWER_WORDS);
     for (i = 0; i < CALLS; i++) {
         sprintf(what, "call %u of the list", (unsigned)i);
@@ -292,10 +356,11 @@ static void intervals(void) {
 static void boards(void) {
     c51_board board, before, jumped;
     c51_board_answer cycle = {0, 0, 0};
-    c53_outputs_answer jump;
+    c51_board_jump_answer jump;
     int i;
     board.device = c51_reset(52).device;
     board.interval = c53_reset();
+    check(c51_write(&board.device, C51_TMOD, 0x02) == C51_PASSED, "Timer 0 laps in 256 cycles");
     check(c51_write(&board.device, C51_TCON, 0x10) == C51_PASSED, "Timer 0 runs");
     check(c53_write(&board.interval, C53_CONTROL, C53_SELECT0 | C53_LOW | C53_MODE2) == C51_PASSED, "control word on a board");
     check(c53_write(&board.interval, C53_COUNTER0, 5) == C51_PASSED, "count on a board");
@@ -305,20 +370,21 @@ static void boards(void) {
     check(cycle.code == C51_BAD_PINS && cycle.line == 0 && cycle.outputs == 0, "board cycle refused by its gates");
     check(c51_board_jump(&board, C51_PINS_HIGH, 8, C51_MAX_CYCLES + 1).code == C51_BAD_PINS, "board jump refused, 4 before 5");
     jump = c51_board_jump(&board, C51_PINS_HIGH, C53_GATES_HIGH, C51_MAX_CYCLES + 1);
-    check(jump.code == C51_TOO_LONG && jump.outputs == 0, "board jump refused");
+    check(jump.code == C51_TOO_LONG && jump.outputs == 0 && are(jump.totals, 0, 0, 0), "board jump refused");
     check(same(&board.device, &before.device) && same_interval(&board.interval, &before.interval), "a refusal leaves both chips");
 
     for (i = 0; i < 1000; i++) cycle = c51_board_cycle(&board, C51_PINS_HIGH, C53_GATES_HIGH);
     check(cycle.code == C51_PASSED && cycle.line == 1 && cycle.outputs == 0, "cycle 1,000 of the board");
     jump = c51_board_jump(&jumped, C51_PINS_HIGH, C53_GATES_HIGH, 1000);
-    check(jump.code == C51_PASSED && jump.outputs == 0, "a jump of the board");
+    check(jump.code == C51_PASSED && jump.outputs == 0 && are(jump.totals, 3, 0, 0), "a jump of the board");
     check(same(&board.device, &jumped.device) && same_interval(&board.interval, &jumped.interval), "and it ends as the cycles do");
 
     check(c51_write(&board.device, C51_PCON, C51_PCON_PD) == C51_PASSED, "power-down on a board");
     before = board;
     cycle = c51_board_cycle(&board, 0, C53_GATES_HIGH);
     check(cycle.code == C51_PASSED && cycle.line == 1 && cycle.outputs == C53_OUT0, "the 82C53 goes on");
-    check(c51_board_jump(&board, 0, C53_GATES_HIGH, 4).outputs == 0, "by jumps too");
+    jump = c51_board_jump(&board, 0, C53_GATES_HIGH, 4);
+    check(jump.code == C51_PASSED && jump.outputs == 0 && are(jump.totals, 0, 0, 0), "by jumps too, in which the chip's timers stand");
     check(c53_write(&board.interval, C53_COUNTER0, 9) == C51_PASSED && board.interval.counter0.waiting == 9, "and so do its calls");
     check(same(&board.device, &before.device), "and the chip stays");
 
@@ -363,6 +429,7 @@ static void speeds(void) {
 int main(void) {
     calls();
     rises();
+    totals();
     lists();
     intervals();
     boards();

@@ -1,15 +1,24 @@
-//! The wrapper: each refusal that a call can meet, what a refused call leaves, the values of each call, and when flags last rose.
-use c51::{address, call, flag, pcon, pin, raw, AnswerRow, Device, Flag, FlagTimes, Refusal};
-use c51::{ANSWER_WORDS, CALL_WORDS, MAX_CYCLES, MAX_TRACE, NONE, PINS_HIGH};
+//! The wrapper: each refusal that a call can meet, what a refused call leaves, the values of each call, when flags last
+//! rose, and how often timers overflowed.
+use c51::raw::{self, RunAnswer};
+use c51::{address, call, flag, pcon, pin, AnswerRow, Board, Device, Flag, FlagTimes, Refusal, Totals};
+use c51::{ANSWER_WORDS, CALL_WORDS, GATES_HIGH, MAX_CYCLES, MAX_TRACE, NONE, PINS_HIGH};
 
-/// Timer 0 about to overflow, its interrupt enabled.
-fn timer_0_at_fffe() -> Device {
-    let mut device = Device::reset(52).unwrap();
-    let writes = [(address::TMOD, 0x01), (address::TH0, 0xFF), (address::TL0, 0xFE), (address::IE, 0x82), (address::TCON, 0x10)];
-    for (address, value) in writes {
+/// Writes, each as an address and a value.
+type Writes = [(u8, u8)];
+
+/// A device after reset and these writes.
+fn written(kind: u8, writes: &Writes) -> Device {
+    let mut device = Device::reset(kind).unwrap();
+    for &(address, value) in writes {
         device.write(address, value).unwrap();
     }
     device
+}
+
+/// Timer 0 about to overflow, its interrupt enabled.
+fn timer_0_at_fffe() -> Device {
+    written(52, &[(address::TMOD, 0x01), (address::TH0, 0xFF), (address::TL0, 0xFE), (address::IE, 0x82), (address::TCON, 0x10)])
 }
 
 #[test]
@@ -119,14 +128,10 @@ fn wake_looks() {
 
 /// Timer 2 of a device at a count, with a reload value and a T2CON, its interrupt enabled.
 fn timer_2_at(count: u16, reload: u16, t2con: u8) -> Device {
-    let mut device = Device::reset(52).unwrap();
     let [th2, tl2] = count.to_be_bytes();
     let [rcap2h, rcap2l] = reload.to_be_bytes();
     let timer_2 = [(address::TH2, th2), (address::TL2, tl2), (address::RCAP2H, rcap2h), (address::RCAP2L, rcap2l)];
-    for (address, value) in timer_2.into_iter().chain([(address::IE, 0xA0), (address::T2CON, t2con)]) {
-        device.write(address, value).unwrap();
-    }
-    device
+    written(52, &[&timer_2[..], &[(address::IE, 0xA0), (address::T2CON, t2con)]].concat())
 }
 
 /// The offers after each of the first cycles, with one pin byte.
@@ -271,7 +276,7 @@ fn last_rises(device: &Device) -> [Option<u64>; 8] {
 /// INT1 edge-triggered; both frames are of serial mode 0.
 #[test]
 fn each_flag_has_its_place() {
-    let rises: [(Flag, &[(u8, u8)], u8, u64); 8] = [
+    let rises: [(Flag, &Writes, u8, u64); 8] = [
         (Flag::Tf0, &[(address::TMOD, 0x01), (address::TH0, 0xFF), (address::TL0, 0xFE), (address::TCON, 0x10)], PINS_HIGH, 2),
         (Flag::Tf1, &[(address::TMOD, 0x10), (address::TH1, 0xFF), (address::TL1, 0xFD), (address::TCON, 0x40)], PINS_HIGH, 3),
         (Flag::Ie0, &[], PINS_HIGH & !pin::INT0, 1),
@@ -284,11 +289,8 @@ fn each_flag_has_its_place() {
     assert_eq!(rises.map(|(flag, ..)| flag), Flag::ALL);
     assert_eq!(Flag::ALL.map(|flag| flag as usize), [0, 1, 2, 3, 4, 5, 6, 7]);
     for (flag, writes, pins, cycle) in rises {
-        let mut device = Device::reset(52).unwrap();
-        assert_eq!((device.times, last_rises(&device)), (FlagTimes::default(), [None; 8]), "never after reset");
-        for &(address, value) in writes {
-            device.write(address, value).unwrap();
-        }
+        let mut device = written(52, writes);
+        assert_eq!((device.times, last_rises(&device)), (FlagTimes::default(), [None; 8]), "never before a cycle");
         for number in 1..=cycle {
             assert_eq!(last_rises(&device), [None; 8], "{flag:?}, before cycle {number}");
             device.cycle(pins).unwrap();
@@ -474,40 +476,42 @@ fn the_ranges_of_the_pairs() {
     }
 }
 
-/// An answer in a list: its code, how many numbers it gives, and the first of them.
-fn answer(row: AnswerRow) -> [u64; 3] {
-    [row[0], row[1], row[2]]
+/// An answer in a list: its code, how many numbers it gives, the numbers, and zeros after them.
+fn answer<const WORDS: usize>(words: [u64; WORDS]) -> AnswerRow {
+    std::array::from_fn(|word| words.get(word).copied().unwrap_or(0))
 }
 
 /// A list answers as the single calls do, and leaves what they leave.
 #[test]
 fn a_list_of_every_call() {
     let pins = PINS_HIGH.into();
-    const ROWS: usize = 18;
-    let rows: [([u64; CALL_WORDS], [u64; 3]); ROWS] = [
-        ([call::LOOK, pins, 1], [0, NONE, 0]),
-        ([call::LOOK, pins, MAX_CYCLES], [0, 1, 2]),
-        ([call::WAKE, pins, 2], [0, NONE, 0]),
-        ([call::WAKE, 0x100 | pins, MAX_CYCLES], [0, 1, 3]),
-        ([call::WAKE, 0x80, 0], [Refusal::BadPins as u64, 1, 0]),
-        ([call::CYCLE, pins, 0], [0, 1, 1]),
-        ([call::JUMP, pins, 1], [0, 0, 0]),
-        ([call::READ, address::TCON.into(), 0], [0, 1, 0x30]),
-        ([call::OFFER, 0, 0], [0, NONE, 0]),
-        ([call::TRACE, 0, 1], [Refusal::BadPins as u64, 0, 0]),
-        ([call::TRACE, 1, 2], [0, 0, 0]),
-        ([call::OFFER, 0, 0], [0, 1, 0x0B]),
-        ([call::WAKE, pins, 0], [0, 1, 0]),
-        ([call::TAKE, 0, 0], [0, 1, 0x0B]),
-        ([call::WRITE, address::TMOD.into(), 0x101], [0, 0, 0]),
-        ([call::RETURN, 0, 0], [0, 0, 0]),
-        ([u64::MAX, 0, 0], [Refusal::NothingInService as u64, 0, 0]),
-        ([call::WAKE + 1, 0, 0], [Refusal::NothingInService as u64, 0, 0]),
+    const ROWS: usize = 20;
+    let rows: [([u64; CALL_WORDS], AnswerRow); ROWS] = [
+        ([call::LOOK, pins, 1], answer([0, NONE])),
+        ([call::LOOK, pins, MAX_CYCLES], answer([0, 1, 2])),
+        ([call::WAKE, pins, 2], answer([0, NONE])),
+        ([call::WAKE, 0x100 | pins, MAX_CYCLES], answer([0, 1, 3])),
+        ([call::WAKE, 0x80, 0], answer([Refusal::BadPins as u64, 1])),
+        ([call::CYCLE, pins, 0], answer([0, 1, 1])),
+        ([call::JUMP, pins, MAX_CYCLES + 1], answer([Refusal::TooLong as u64, 3])),
+        ([call::JUMP, pins, 1], answer([0, 3, 1])),
+        ([call::JUMP, pins, 0], answer([0, 3])),
+        ([call::READ, address::TCON.into(), 0], answer([0, 1, 0x30])),
+        ([call::OFFER, 0, 0], answer([0, NONE])),
+        ([call::TRACE, 0, 1], answer([Refusal::BadPins as u64, 3])),
+        ([call::TRACE, 1, 2], answer([0, 3])),
+        ([call::OFFER, 0, 0], answer([0, 1, 0x0B])),
+        ([call::WAKE, pins, 0], answer([0, 1, 0])),
+        ([call::TAKE, 0, 0], answer([0, 1, 0x0B])),
+        ([call::WRITE, address::TMOD.into(), 0x101], answer([0, 0])),
+        ([call::RETURN, 0, 0], answer([0, 0])),
+        ([u64::MAX, 0, 0], answer([Refusal::NothingInService as u64, 0])),
+        ([call::WAKE + 1, 0, 0], answer([Refusal::NothingInService as u64, 0])),
     ];
     let mut device = timer_0_at_fffe();
-    let mut answers = [[0; ANSWER_WORDS]; ROWS];
+    let mut answers = [[7; ANSWER_WORDS]; ROWS];
     device.replay(&rows.map(|(call, _)| call), &[0x8000_0001, 0x7F00_0001], &mut answers);
-    assert_eq!(answers.map(answer), rows.map(|(_, answer)| answer));
+    assert_eq!(answers, rows.map(|(_, answer)| answer));
 
     let mut single = timer_0_at_fffe();
     single.jump(PINS_HIGH, 3).unwrap();
@@ -515,27 +519,24 @@ fn a_list_of_every_call() {
     single.return_from_interrupt().unwrap();
     assert_eq!(device, single);
 
-    let asleep = [
-        [call::WRITE, address::PCON.into(), (pcon::PD | pcon::IDL).into()],
-        [call::WRITE, address::PCON.into(), 0],
-        [call::TAKE, 0, 0],
-        [call::RETURN, 0, 0],
-        [call::WAKE, pins, MAX_CYCLES],
-        [call::JUMP, pins, MAX_CYCLES],
-        [call::CYCLE, pins, 0],
-    ];
     let refused = Refusal::PoweredDown as u64;
-    device.replay(&asleep, &[], &mut answers[..7]);
-    assert_eq!(
-        answers[..7].iter().map(|row| answer(*row)).collect::<Vec<[u64; 3]>>(),
-        [[0, 0, 0], [refused, 0, 0], [refused, 1, 0], [refused, 0, 0], [0, NONE, 0], [0, 0, 0], [0, 1, 1]]
-    );
+    let asleep = [
+        ([call::WRITE, address::PCON.into(), (pcon::PD | pcon::IDL).into()], answer([0, 0])),
+        ([call::WRITE, address::PCON.into(), 0], answer([refused, 0])),
+        ([call::TAKE, 0, 0], answer([refused, 1])),
+        ([call::RETURN, 0, 0], answer([refused, 0])),
+        ([call::WAKE, pins, MAX_CYCLES], answer([0, NONE])),
+        ([call::JUMP, pins, MAX_CYCLES], answer([0, 3])),
+        ([call::CYCLE, pins, 0], answer([0, 1, 1])),
+    ];
+    device.replay(&asleep.map(|(call, _)| call), &[], &mut answers[..7]);
+    assert_eq!(answers[..7], asleep.map(|(_, answer)| answer));
     assert_eq!(device, Device { pcon: 0x03, ..single });
 
     device.replay(&[[call::RESET, 51, 0]], &[], &mut answers[..1]);
-    assert_eq!((Ok(device), answer(answers[0])), (Device::reset(51), [0, 0, 0]));
+    assert_eq!((Ok(device), answers[0]), (Device::reset(51), answer([0, 0])));
     device.replay(&[[call::RESET, 50, 0]], &[], &mut answers[..1]);
-    assert_eq!((device, answer(answers[0])), (Device::default(), [Refusal::BadKind as u64, 0, 0]));
+    assert_eq!((device, answers[0]), (Device::default(), answer([Refusal::BadKind as u64, 0])));
 }
 
 /// As many calls run as both slices have whole rows for, and what lies past them in the answers stays.
@@ -550,7 +551,7 @@ fn whole_rows_run() {
             raw::replay(&mut device, &calls.as_flattened()[..calls_length], &[], answers_given);
             let ran = (calls_length / CALL_WORDS).min(answers_length / ANSWER_WORDS);
             assert_eq!(device.cycle, ran as u64);
-            assert!(answers[..ran].iter().all(|row| answer(*row) == [0, 1, 1]), "{calls_length} and {answers_length} words");
+            assert!(answers[..ran].iter().all(|row| *row == answer([0, 1, 1])), "{calls_length} and {answers_length} words");
             assert!(answers[ran..].as_flattened().iter().all(|&word| word == 7), "{calls_length} and {answers_length} words");
         }
     }
@@ -579,6 +580,158 @@ fn the_part_of_a_trace() {
         let mut device = Device::reset(52).unwrap();
         let mut answers = [[7; ANSWER_WORDS]];
         device.replay(&[[call::TRACE, start, end]], &lent, &mut answers);
-        assert_eq!((answer(answers[0]), device.cycle), ([0, 0, 0], cycles), "{start} to {end}");
+        assert_eq!((answers[0], device.cycle), (answer([0, 3]), cycles), "{start} to {end}");
     }
+}
+
+/// The totals of a run in every way: as a jump, in a list, on a board, and in parts, which add up: a trace of two
+/// entries, two jumps, and jumps of 1 where it is short.
+fn overflows(given: Device, pins: u8, n: u64) -> Totals {
+    let mut device = given;
+    let totals = device.jump(pins, n).unwrap();
+    let same = |way: &str, given: Totals, left: Device| assert_eq!((given, left), (totals, device), "{n} cycles by {way}");
+    let parts = [n / 3, n - n / 3];
+    let entries = parts.iter().filter(|&&part| part > 0).map(|&part| u32::from(pins) << 24 | part as u32);
+    let [mut traced, mut listed, mut parted, mut by_ones] = [given; 4];
+    same("a trace", traced.trace(&entries.collect::<Vec<u32>>()).unwrap(), traced);
+    let mut rows = [[7; ANSWER_WORDS]; 1];
+    listed.replay(&[[call::JUMP, pins.into(), n]], &[], &mut rows);
+    let [0, 3, timer0, timer1, timer2] = rows[0] else { panic!("{rows:?}") };
+    same("a list", Totals { timer0, timer1, timer2 }, listed);
+    let mut board = Board { device: given, ..Board::reset(52).unwrap() };
+    same("a board", board.jump(pins, GATES_HIGH, n).unwrap().totals, board.device);
+    same("two jumps", parts.iter().map(|&part| parted.jump(pins, part).unwrap()).sum(), parted);
+    if n < 10_000 {
+        same("jumps of 1", (0..n).map(|_| by_ones.jump(pins, 1).unwrap()).sum(), by_ones);
+    }
+    totals
+}
+
+/// Timers 0 and 1 by their modes: what is written, pins, cycles, and the overflows in them.
+#[test]
+fn totals_of_timers_0_and_1() {
+    use address::{TCON, TH0, TH1, TL0, TL1, TMOD};
+    const T0_LOW: u8 = PINS_HIGH & !pin::T0;
+    let runs: [(&Writes, u8, u64, [u64; 2]); 15] = [
+        // the third card of document 01: the first lap is short
+        (&[(TMOD, 0x20), (TH1, 0xFD), (TL1, 0xFE), (TCON, 0x40)], PINS_HIGH, 101, [0, 34]),
+        (&[(TMOD, 0x20), (TH1, 0xFD), (TL1, 0xFE), (TCON, 0x40)], PINS_HIGH, 1, [0, 0]),
+        (&[(TMOD, 0x20), (TH1, 0xFD), (TL1, 0xFE), (TCON, 0x40)], PINS_HIGH, 2, [0, 1]),
+        (&[(TMOD, 0x20), (TH1, 0xFD), (TL1, 0xFE), (TCON, 0xC0)], PINS_HIGH, 12_000_001, [0, 4_000_000]),
+        // mode 0 has 13 bits, mode 1 has 16
+        (&[(TMOD, 0x00), (TH0, 0xFF), (TL0, 0xFF), (TCON, 0x10)], PINS_HIGH, 8_192, [1, 0]),
+        (&[(TMOD, 0x00), (TH0, 0xFF), (TL0, 0xFF), (TCON, 0x10)], PINS_HIGH, 8_193, [2, 0]),
+        (&[(TMOD, 0x11), (TH0, 0xFF), (TL0, 0xFE), (TH1, 0xFF), (TL1, 0xFF), (TCON, 0x50)], PINS_HIGH, 65_537, [1, 2]),
+        // mode 3: TL0 and TH0 in one cycle; TH0 alone under TR1; Timer 1 without a flag, its TR1 being 0
+        (&[(TMOD, 0x03), (TH0, 0xFF), (TL0, 0xFF), (TCON, 0x50)], PINS_HIGH, 1, [2, 0]),
+        (&[(TMOD, 0x03), (TH0, 0xFF), (TL0, 0xFF), (TCON, 0x50)], PINS_HIGH, 257, [4, 0]),
+        (&[(TMOD, 0x33), (TH0, 0xFF), (TL0, 0xFF), (TCON, 0x40)], PINS_HIGH, 256, [1, 0]),
+        (&[(TMOD, 0x23), (TH1, 0xFF), (TL1, 0xFF), (TCON, 0x00)], PINS_HIGH, 1_000, [0, 1_000]),
+        // a counter counts in the cycle after the fall, also where another run has made it
+        (&[(TMOD, 0x06), (TL0, 0xFF), (TCON, 0x10)], T0_LOW, 1, [0, 0]),
+        (&[(TMOD, 0x06), (TL0, 0xFF), (TCON, 0x10)], T0_LOW, 2, [1, 0]),
+        // stopped, and held by its gate
+        (&[(TMOD, 0x12), (TL0, 0xFF), (TH1, 0xFF), (TL1, 0xFF)], PINS_HIGH, 1_000, [0, 0]),
+        (&[(TMOD, 0x0A), (TL0, 0xFF), (TCON, 0x10)], PINS_HIGH & !pin::INT0, 1_000, [0, 0]),
+    ];
+    for kind in [51, 52] {
+        for (writes, pins, n, [timer0, timer1]) in runs {
+            assert_eq!(
+                overflows(written(kind, writes), pins, n),
+                Totals { timer0, timer1, timer2: 0 },
+                "{n} cycles after {writes:02X?}"
+            );
+        }
+    }
+    let mut silent = written(52, &[(TMOD, 0x23), (TH1, 0xFF), (TL1, 0xFF)]);
+    assert_eq!((silent.jump(PINS_HIGH, 9).unwrap().timer1, silent.timers.tcon), (9, 0), "no flag is set");
+}
+
+/// An idle station, with TF1 up: whatever the reload of Timer 1 and wherever in its lap a run begins, the laps up to its
+/// end less those up to its beginning. Laps by division of its own length would lose the first one, which is short.
+#[test]
+fn totals_of_an_idle_station() {
+    for reload in [0x00, 0xF9, 0xFD, 0xFE, 0xFF] {
+        let lap = 0x100 - u64::from(reload);
+        let timer_1 = [(address::TMOD, 0x20), (address::TH1, reload), (address::TL1, reload), (address::TCON, 0x40)];
+        let serial = [(address::SCON, 0x50), (address::IE, 0x90), (address::PCON, pcon::IDL)];
+        let mut device = written(52, &[&timer_1[..], &serial].concat());
+        device.jump(PINS_HIGH, 999).unwrap();
+        for _ in 0..7 {
+            for n in (0..100).chain([1_000_000]) {
+                let laps = (device.cycle + n) / lap - device.cycle / lap;
+                let expected = Totals { timer1: laps, ..Totals::default() };
+                assert_eq!(overflows(device, PINS_HIGH, n), expected, "{n} cycles, reload {reload:02X}");
+            }
+            device.cycle(PINS_HIGH).unwrap();
+        }
+    }
+}
+
+/// Timer 2: auto-reload and capture, and as a baud rate generator, from 1 in a cycle to 6. A reload by T2EX is no overflow.
+#[test]
+fn totals_of_timer_2() {
+    let timer2 = |device: Device, pins: u8, n: u64| {
+        let totals = overflows(device, pins, n);
+        assert_eq!((totals.timer0, totals.timer1), (0, 0));
+        totals.timer2
+    };
+    for (t2con, reload) in [(0x04, 0xFFFE), (0x05, 0)] {
+        let expected = [(1, 0), (2, 1), (6, if reload == 0 { 1 } else { 3 })];
+        for (n, overflows) in expected {
+            assert_eq!(timer2(timer_2_at(0xFFFE, reload, t2con), PINS_HIGH, n), overflows, "T2CON {t2con:02X}, {n} cycles");
+        }
+    }
+    for clock in [0x14, 0x24, 0x34] {
+        assert_eq!(timer2(timer_2_at(0xFFFD, 0xFFFD, clock), PINS_HIGH, 1), 2, "two a cycle");
+        assert_eq!(timer2(timer_2_at(0xFFFD, 0xFFFD, clock), PINS_HIGH, 1_000), 2_000);
+        for lap in 1..=7 {
+            let count = (0x1_0000_u32 - lap) as u16;
+            assert_eq!(timer2(timer_2_at(count, count, clock), PINS_HIGH, 700), u64::from(6 * 700 / lap), "a lap of {lap} counts");
+        }
+    }
+    const T2EX_LOW: u8 = PINS_HIGH & !pin::T2EX;
+    let mut reloaded = timer_2_at(0, 0xFFF0, 0x0C);
+    assert_eq!(timer2(reloaded, T2EX_LOW, 1), 0);
+    reloaded.jump(T2EX_LOW, 1).unwrap();
+    assert_eq!((reloaded.timer2.th2, reloaded.timer2.tl2, reloaded.timer2.t2con & flag::EXF2), (0xFF, 0xF0, flag::EXF2));
+}
+
+/// An empty jump or trace, power-down, and each refusal: three zeros, also where a timer is about to overflow.
+#[test]
+fn totals_that_are_zeros() {
+    let mut device = written(52, &[(address::TMOD, 0x22), (address::TL0, 0xFF), (address::TL1, 0xFF), (address::TCON, 0x50)]);
+    let about = device;
+    assert_eq!((device.jump(PINS_HIGH, 0), device.trace(&[])), (Ok(Totals::default()), Ok(Totals::default())));
+    let refused = |code: Refusal| RunAnswer { code: code.code(), totals: Totals::default() };
+    assert_eq!(raw::c51_jump(&mut device, 0x80, 1), refused(Refusal::BadPins));
+    assert_eq!(raw::c51_jump(&mut device, PINS_HIGH, MAX_CYCLES + 1), refused(Refusal::TooLong));
+    assert_eq!(raw::trace(&mut device, &[0x7F00_0001, 0x8000_0001]), refused(Refusal::BadPins));
+    assert_eq!(raw::trace(&mut device, &[0x7F00_0001, 0x7F00_0000]), refused(Refusal::EmptyEntry));
+    assert_eq!(raw::trace(&mut device, &vec![0x7F00_0001; MAX_TRACE + 1]), refused(Refusal::TooLong));
+    assert_eq!(device, about);
+    let mut bad = Device { kind: 53, ..about };
+    assert_eq!(
+        (raw::c51_jump(&mut bad, PINS_HIGH, 1), raw::trace(&mut bad, &[])),
+        (refused(Refusal::BadRecord), refused(Refusal::BadRecord))
+    );
+    let mut down = about;
+    down.write(address::PCON, pcon::PD).unwrap();
+    assert_eq!(down.jump(PINS_HIGH, MAX_CYCLES), Ok(Totals::default()), "power-down");
+    assert_eq!(down.trace(&[0x7FFF_FFFF; 9]), Ok(Totals::default()), "power-down");
+    let mut rest = Device::reset(51).unwrap();
+    assert_eq!(rest.jump(PINS_HIGH, MAX_CYCLES), Ok(Totals::default()), "at rest");
+    assert_eq!(device.jump(PINS_HIGH, 1), Ok(Totals { timer0: 1, timer1: 1, timer2: 0 }), "the very next cycle has two");
+}
+
+/// Totals are added timer by timer.
+#[test]
+fn totals_add_up() {
+    let [a, b] = [Totals { timer0: 1, timer1: 20, timer2: 300 }, Totals { timer0: 4_000, timer1: 50_000, timer2: 1 << 40 }];
+    let sum = Totals { timer0: 4_001, timer1: 50_020, timer2: 300 + (1 << 40) };
+    let mut added = a;
+    added += b;
+    assert_eq!((a + b, added, [a, b].into_iter().sum::<Totals>()), (sum, sum, sum));
+    assert_eq!([].into_iter().sum::<Totals>(), Totals::default());
+    assert_eq!(a + Totals::default(), a);
 }

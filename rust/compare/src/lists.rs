@@ -78,7 +78,13 @@ fn but_flags(address: u8) -> u8 {
     }
 }
 
-/// A record of any content within the ranges and masks: reachable or not, it is accepted.
+/// TMOD without gates and counters; TR0 and TR1 of TCON; TR2 of T2CON.
+const TIMERS: u8 = 0x33;
+const RUN: u8 = 0x50;
+const RUN_2: u8 = 0x04;
+
+/// A record of any content within the ranges and masks: reachable or not, it is accepted. In half of them counts are
+/// about to overflow and laps are short, and in half of them timers run.
 fn good_record(rng: &mut Rng) -> Device {
     let mut d = any_record(rng);
     d.kind = rng.pick(&[51, 52, 52]);
@@ -100,11 +106,15 @@ fn good_record(rng: &mut Rng) -> Device {
         *field &= 1;
     }
     if rng.one_in(2) {
-        for count in
-            [&mut d.timers.tl0, &mut d.timers.tl1, &mut d.timers.th0, &mut d.timer2.tl2, &mut d.timer2.th2, &mut d.timer2.rcap2h]
-        {
+        let (t, t2) = (&mut d.timers, &mut d.timer2);
+        for count in [&mut t.tl0, &mut t.tl1, &mut t.th0, &mut t.th1, &mut t2.tl2, &mut t2.th2, &mut t2.rcap2l, &mut t2.rcap2h] {
             *count |= rng.pick(&[0xFF, 0xFC, 0xF0]);
         }
+    }
+    if rng.one_in(2) {
+        d.timers.tmod &= TIMERS;
+        d.timers.tcon |= RUN;
+        d.timer2.t2con |= RUN_2;
     }
     if rng.one_in(2) {
         d.timers.tcon &= but_flags(address::TCON);
@@ -312,13 +322,17 @@ fn some_address(rng: &mut Rng) -> u8 {
     }
 }
 
-/// A value to write; half of the counts are about to overflow, and half of the flags are 0, so that they rise.
+/// A value to write; half of the counts are about to overflow, half of the timers run, and half of the flags are 0, so
+/// that they rise.
 fn some_value(rng: &mut Rng, address: u8) -> u8 {
     let value = rng.byte();
     match address {
         address::PCON => some_pcon(rng),
         _ if rng.one_in(2) => value,
-        address::TL0 | address::TL1 | address::TH0 | address::TL2 | address::TH2 | address::RCAP2H => value | 0xFC,
+        address::TL0..=address::TH1 | address::RCAP2L..=address::TH2 => value | 0xFC,
+        address::TMOD => value & TIMERS,
+        address::TCON => value & but_flags(address) | RUN,
+        address::T2CON => value & but_flags(address) | RUN_2,
         _ => value & but_flags(address),
     }
 }

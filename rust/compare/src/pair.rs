@@ -3,8 +3,8 @@ use crate::ran::{row, Ran};
 use crate::reach::{shortened, REACH};
 use crate::record::{board_to_model, interval_of_model, interval_to_model, to_model, Model};
 use crate::speeds::compare_speed;
-use c51::raw::{self, BoardAnswer, LineAnswer, LookAnswer, OutputsAnswer, ValueAnswer};
-use c51::{pcon, AnswerRow, Board, Device, Interval};
+use c51::raw::{self, BoardAnswer, BoardJumpAnswer, LineAnswer, LookAnswer, OutputsAnswer, RunAnswer, ValueAnswer};
+use c51::{pcon, AnswerRow, Board, Device, Interval, Totals};
 use c51model::interval::{self, board_cycle, board_jump};
 use c51model::model::{self, Refusal, BAD_RECORD};
 use c51model::script;
@@ -44,6 +44,12 @@ pub fn same<T: PartialEq + Debug>(library: T, model: T) -> Result<(), String> {
     }
 }
 
+/// The totals of a run of the model.
+pub fn totals_of(tally: &model::Tally) -> Totals {
+    let [timer0, timer1, timer2] = tally.totals;
+    Totals { timer0, timer1, timer2 }
+}
+
 /// The answer of a look ahead or a wake look.
 fn look_answer(code: u8, found: Option<u64>) -> LookAnswer {
     LookAnswer { code, found: found.is_some().into(), at: found.unwrap_or(0) }
@@ -65,7 +71,10 @@ fn other_way(mut board: Board, call: &BoardCall) -> Option<(OutputsAnswer, Board
     let answer = match *call {
         BoardCall::Pulse(gates) => raw::c53_jump(&mut board.interval, gates, 1),
         BoardCall::Pulses(gates, n) if n <= ONE_BY_ONE => (0..n).map(|_| raw::c53_pulse(&mut board.interval, gates)).last()?,
-        BoardCall::Cycle(pins, gates) => raw::c51_board_jump(&mut board, pins, gates, 1),
+        BoardCall::Cycle(pins, gates) => {
+            let BoardJumpAnswer { code, outputs, .. } = raw::c51_board_jump(&mut board, pins, gates, 1);
+            OutputsAnswer { code, outputs }
+        }
         BoardCall::Jump(pins, gates, n) if n <= ONE_BY_ONE => {
             let BoardAnswer { code, outputs, .. } = (0..n).map(|_| raw::c51_board_cycle(&mut board, pins, gates)).last()?;
             OutputsAnswer { code, outputs }
@@ -73,6 +82,22 @@ fn other_way(mut board: Board, call: &BoardCall) -> Option<(OutputsAnswer, Board
         _ => return None,
     };
     Some((answer, board))
+}
+
+/// Nothing where the parts of a run, made one after the other from the record before it, have its totals and leave what
+/// it left.
+fn adds_up<R: PartialEq + Debug, P>(
+    mut record: R,
+    parts: impl IntoIterator<Item = P>,
+    part: impl Fn(&mut R, P) -> Totals,
+    whole: (Totals, R),
+) -> Result<(), String> {
+    let totals: Totals = parts.into_iter().map(|p| part(&mut record, p)).sum();
+    if (totals, &record) == (whole.0, &whole.1) {
+        Ok(())
+    } else {
+        Err(format!("the run gives {whole:?}\nits parts   {:?}", (totals, record)))
+    }
 }
 
 /// Whether 0 stands beside each mark of 0.
@@ -110,39 +135,36 @@ impl Pair {
                 let beside = format!("the 82C53 before it: {:?}", before.interval);
                 format!("the library and the model differ in the call of this script:\n{put}\n{request}\nD\n{what}\n{beside}")
             })?;
-            tally += Tally::of(&request, &before.device, &self.library.device);
-            match (request, answer) {
-                (Request::Call(call), Some(answer)) => ran.push(call, answer, self.library.device)?,
-                (Request::Board(_) | Request::Put(_), _) => {
+            tally += Tally::of(&request, &answer, &before.device, &self.library.device);
+            match request {
+                Request::Call(call) => ran.push(call, answer, self.library.device)?,
+                Request::Board(_) | Request::Put(_) => {
                     ran.compare()?;
                     ran = Ran::from(self.library.device);
                 }
-                _ => {}
+                Request::Speed(_) | Request::Dump => {}
             }
         }
         ran.compare()?;
         Ok(tally)
     }
 
-    /// Runs one of them on both, and compares the answers and the records; gives the answer that a call has in a list.
-    fn step(&mut self, request: &Request) -> Result<Option<AnswerRow>, String> {
-        let answer = match request {
-            Request::Call(call) => Some(self.call(call)?),
-            Request::Board(call) => {
-                self.board_call(call)?;
-                None
-            }
+    /// Runs one of them on both, and compares the answers and the records; gives the answer that a call has in a list, and
+    /// one with the totals of a jump of the board.
+    fn step(&mut self, request: &Request) -> Result<AnswerRow, String> {
+        let mut answer = row(0, Some(&[]));
+        match request {
+            Request::Call(call) => answer = self.call(call)?,
+            Request::Board(call) => answer = row(0, Some(&self.board_call(call)?)),
             Request::Speed(call) => {
                 compare_speed(call)?;
-                None
             }
             Request::Put(device) => {
                 self.library.device = **device;
                 self.model.device = to_model(device);
-                None
             }
-            Request::Dump => None,
-        };
+            Request::Dump => {}
+        }
         let (library, model) = (&self.library, &self.model);
         same(raw::c51_accepts(library.device), model.device.record_is_good().into())?;
         if to_model(&library.device) != model.device {
@@ -159,8 +181,10 @@ impl Pair {
         Ok(answer)
     }
 
-    /// Runs a call by itself on both, and compares the answers; gives the one that it has in a list.
+    /// Runs a call by itself on both, and compares the answers; gives the one that it has in a list. A short jump is made
+    /// once more by jumps of 1, and a trace run by a jump for each entry.
     fn call(&mut self, call: &Call) -> Result<AnswerRow, String> {
+        let given = self.library.device;
         let (library, model) = (&mut self.library.device, &mut self.model.device);
         Ok(match call {
             &Call::Reset(kind) => {
@@ -188,14 +212,25 @@ impl Pair {
                 row(code, Some(&[line.into()]))
             }
             &Call::Jump(pins, n) => {
-                let code = code_and(model.jump(pins, n)).0;
-                same(raw::c51_jump(library, pins, n), code)?;
-                row(code, Some(&[]))
+                let (code, tally) = code_and(model.jump(pins, n));
+                let answer = RunAnswer { code, totals: totals_of(&tally) };
+                same(raw::c51_jump(library, pins, n), answer)?;
+                if n <= ONE_BY_ONE {
+                    adds_up(given, 0..n, |device, _| raw::c51_jump(device, pins, 1).totals, (answer.totals, *library))?;
+                }
+                row(code, Some(&tally.totals))
             }
             Call::Trace(entries) => {
-                let code = code_and(model.trace(entries)).0;
-                same(raw::trace(library, entries), code)?;
-                row(code, Some(&[]))
+                let (code, tally) = code_and(model.trace(entries));
+                let answer = RunAnswer { code, totals: totals_of(&tally) };
+                same(raw::trace(library, entries), answer)?;
+                if code == 0 {
+                    let jump = |device: &mut Device, &entry: &u32| {
+                        raw::c51_jump(device, model::entry_pins(entry), model::entry_cycles(entry).into()).totals
+                    };
+                    adds_up(given, entries, jump, (answer.totals, *library))?;
+                }
+                row(code, Some(&tally.totals))
             }
             &Call::Look(pins, n) => {
                 let (code, at) = code_and(model.look_ahead(pins, n));
@@ -227,12 +262,14 @@ impl Pair {
         })
     }
 
-    /// Makes a call of the 82C53 or of the board on both, and compares the answers, and the call with itself made the other way. A
-    /// refused one leaves the board; one on an 82C53 that the model has no value for is refused by 1.
-    fn board_call(&mut self, call: &BoardCall) -> Result<(), String> {
+    /// Makes a call of the 82C53 or of the board on both, and compares the answers, and the call with itself made the other
+    /// way. A refused one leaves the board; one on an 82C53 that the model has no value for is refused by 1. Gives the
+    /// totals, which are zeros but of a jump of the board.
+    fn board_call(&mut self, call: &BoardCall) -> Result<[u64; 3], String> {
         let given = self.library;
         let (library, model) = (&mut self.library, &mut self.model);
         let timer = model.timer.as_mut().ok_or(BAD_RECORD);
+        let mut overflows = [0; 3];
         let (code, outputs) = match *call {
             BoardCall::Reset => {
                 library.interval = raw::c53_reset();
@@ -267,8 +304,14 @@ impl Pair {
             }
             BoardCall::Jump(pins, gates, n) => {
                 let jumped = timer.and_then(|timer| board_jump(&mut model.device, timer, pins, gates, n));
-                let (code, outputs) = code_and(jumped.map(|(_, outputs)| outputs));
-                same(raw::c51_board_jump(library, pins, gates, n), OutputsAnswer { code, outputs })?;
+                let (code, (tally, outputs)) = code_and(jumped);
+                let answer = BoardJumpAnswer { code, outputs, totals: totals_of(&tally) };
+                same(raw::c51_board_jump(library, pins, gates, n), answer)?;
+                if n <= ONE_BY_ONE {
+                    let jump = |board: &mut Board, _| raw::c51_board_jump(board, pins, gates, 1).totals;
+                    adds_up(given, 0..n, jump, (answer.totals, *library))?;
+                }
+                overflows = tally.totals;
                 (code, outputs)
             }
         };
@@ -281,7 +324,7 @@ impl Pair {
         let made = (OutputsAnswer { code, outputs }, self.library);
         match other_way(given, call) {
             Some(other) if other != made => Err(format!("the library gives {made:?}\nthe other way    {other:?}")),
-            _ => Ok(()),
+            _ => Ok(overflows),
         }
     }
 }
@@ -311,13 +354,16 @@ pub struct Tally {
     pub of_the_board: u64,
     /// The calls for a speed.
     pub for_a_speed: u64,
+    /// The jumps and trace runs, of the chip and of the board, in which Timers 0, 1 and 2 overflowed.
+    pub overflowed: [u64; 3],
 }
 
 impl Tally {
-    /// What one request counts, with the records before and after it.
-    fn of(request: &Request, before: &Device, after: &Device) -> Tally {
+    /// What one request counts, with its answer and the records before and after it.
+    fn of(request: &Request, answer: &AnswerRow, before: &Device, after: &Device) -> Tally {
         let in_power_down = before.pcon & pcon::PD != 0 && before.accepts();
         let woken = *request == Request::Call(Call::Take) && before.pcon & !after.pcon & pcon::IDL != 0;
+        let has_totals = matches!(request, Request::Call(Call::Jump(..) | Call::Trace(_)) | Request::Board(_));
         Tally {
             calls: 1,
             cycles: cycles(request, before, after),
@@ -325,6 +371,7 @@ impl Tally {
             woken: woken.into(),
             of_the_board: matches!(request, Request::Board(_)).into(),
             for_a_speed: matches!(request, Request::Speed(_)).into(),
+            overflowed: [2, 3, 4].map(|word| (has_totals && answer[word] > 0).into()),
         }
     }
 }
@@ -337,5 +384,23 @@ impl std::ops::AddAssign for Tally {
         self.woken += other.woken;
         self.of_the_board += other.of_the_board;
         self.for_a_speed += other.for_a_speed;
+        self.overflowed.iter_mut().zip(other.overflowed).for_each(|(count, other)| *count += other);
+    }
+}
+
+#[cfg(test)]
+mod tests {
+    use super::*;
+
+    /// A record that is a count of cycles, each of which overflows Timer 2 twice.
+    #[test]
+    fn parts_that_do_not_add_up_are_found() {
+        let run = |cycles: &mut u64, n: u64| {
+            *cycles += n;
+            Totals { timer2: 2 * n, ..Totals::default() }
+        };
+        let whole = |timer2: u64, left: u64| adds_up(7, [1, 2, 3], run, (Totals { timer2, ..Totals::default() }, left));
+        assert_eq!(whole(12, 13), Ok(()));
+        assert!(whole(11, 13).is_err() && whole(12, 14).is_err());
     }
 }

@@ -68,17 +68,20 @@ impl Ran {
 #[cfg(test)]
 mod tests {
     use super::*;
-    use c51::PINS_HIGH;
+    use c51::{address, PINS_HIGH};
 
     const SCRIPT: &str = "\nT 1 2130706437\nT 2 2113929218 2130706433\nL 127 9\nD\n";
 
-    /// Two traces and a look ahead that finds none, as they ran.
+    /// Two traces and a look ahead that finds none, as they ran. Timer 0 overflows in every second cycle.
     fn ran() -> Ran {
         let mut device = Device::reset(52).expect("a kind");
+        for (address, value) in [(address::TMOD, 0x02), (address::TH0, 0xFE), (address::TL0, 0xFE), (address::TCON, 0x30)] {
+            device.write(address, value).expect("a register");
+        }
         let mut ran = Ran::from(device);
-        for entries in [vec![0x7F00_0005], vec![0x7E00_0002, 0x7F00_0001]] {
+        for (entries, overflows) in [(vec![0x7F00_0005], 2), (vec![0x7E00_0002, 0x7F00_0001], 2)] {
             device.trace(&entries).expect("a trace");
-            ran.push(Call::Trace(entries), row(0, Some(&[])), device).expect("the same");
+            ran.push(Call::Trace(entries), row(0, Some(&[overflows, 0, 0])), device).expect("the same");
         }
         ran.push(Call::Look(PINS_HIGH, 9), row(0, None), device).expect("the same");
         ran

@@ -1,14 +1,16 @@
 //! A fixed number of lists and raw records of fixed seeds, and that the comparison finds what it must.
-use c51::{call, flag, pcon, Board, Counter, Device, FlagTimes, Interval, ANSWER_WORDS, GATES_HIGH, MAX_CYCLES, PINS_HIGH};
+use c51::{address, call, flag, pcon, Board, BoardJump, Counter, Device, FlagTimes, Interval, Totals};
+use c51::{ANSWER_WORDS, GATES_HIGH, MAX_CYCLES, PINS_HIGH};
 use c51model::baud::{distance, rate_of};
 use c51model::interval::board_jump;
 use c51model::{coverage, script};
 use compare::lists::{raw_interval, raw_record, run_list, run_record, script, styles};
-use compare::pair::{Pair, Tally};
+use compare::pair::{totals_of, Pair, Tally};
 use compare::record::{board_to_model, interval_of_model, interval_to_model, of_model, to_model};
 use compare::speeds::{compare_speed, speed_call, Outcomes};
 use compare::{entry, STAGE};
 use random::Rng;
+use replay::board::BoardCall;
 use replay::calls::{Call, Request};
 use replay::record::{numbers, NUMBERS};
 use replay::speed::SpeedCall;
@@ -36,12 +38,16 @@ fn scripts_of_the_model() {
     assert!(total.cycles > 1_000_000, "{total:?}");
     assert!(total.of_the_board > SCRIPTS_OF_A_STYLE * LINES, "{total:?}");
     assert!(total.for_a_speed > SCRIPTS_OF_A_STYLE * LINES / 2, "{total:?}");
+    assert!(total.overflowed.iter().all(|&runs| runs > total.calls / 100), "{total:?}");
     assert_eq!(rare_rules(SIX, 100), [""; 0], "each flag's first and later rises");
+    assert_eq!(rare_rules(SEVEN, 100), [""; 0], "TL0 and TH0 overflow in one cycle");
 }
 
-/// How the names of the rules that a request brought begin.
+/// How the names of the rules that a request brought begin; and of Timer 2 as a baud rate generator.
 const THREE: &str = "3: ";
 const SIX: &str = "6: ";
+const SEVEN: &str = "7: ";
+const BAUD: &str = "T2 baud timer: ";
 
 /// The rules of a request that the model has followed in this thread fewer times than so often.
 fn rare_rules(request: &str, least: u64) -> Vec<&'static str> {
@@ -64,8 +70,10 @@ fn fresh_lists() {
     assert!(total.woken > LISTS / 20, "{total:?}");
     assert!(total.of_the_board > total.calls / 4, "{total:?}");
     assert!(total.for_a_speed > total.calls / 50, "{total:?}");
+    assert!(total.overflowed.iter().all(|&runs| runs > LISTS / 20), "{total:?}");
     assert_eq!(rare_rules(THREE, 50), [""; 0], "every rule of the 82C53");
     assert_eq!(rare_rules(SIX, 10), [""; 0], "each flag's first and later rises");
+    assert_eq!(rare_rules(SEVEN, 50), [""; 0], "TL0 and TH0 overflow in one cycle");
 }
 
 /// Which pairs of the flag times a record has: in an accepted one ever with 0, and ever with the greatest number; in one that is
@@ -100,6 +108,9 @@ fn raw_records() {
     }
     assert!(kinds.iter().all(|&count| count > RECORDS / 100), "{kinds:?}");
     assert_eq!(rare_rules(SIX, RECORDS / 100), [""; 0], "each flag's first and later rises");
+    assert_eq!(rare_rules(SEVEN, RECORDS / 50), [""; 0], "TL0 and TH0 overflow in one cycle");
+    assert_eq!(rare_rules(BAUD, RECORDS / 2_000), [""; 0], "one to six overflows of Timer 2 in a cycle");
+    assert!(total.overflowed.iter().all(|&runs| runs > RECORDS / 25), "{total:?}");
     assert_eq!((total.calls, total.of_the_board), (18 * RECORDS, 7 * RECORDS));
     assert!((total.calls / 40..total.calls / 5).contains(&total.in_power_down), "{total:?}");
     assert!(total.woken > RECORDS / 100, "{total:?}");
@@ -172,39 +183,48 @@ fn cut(rng: &mut Rng, list: &[Stretch]) -> Vec<Stretch> {
     parts
 }
 
-fn run_cycles(device: &mut Device, list: &[Stretch]) {
+/// Single cycles. They answer no totals: a jump of 1 does, and ends as each of them.
+fn run_cycles(device: &mut Device, list: &[Stretch]) -> Totals {
+    let mut totals = Totals::default();
     for stretch in list {
         for _ in 0..stretch.cycles {
+            let mut jumped = *device;
             device.cycle(stretch.pins).unwrap();
+            totals += jumped.jump(stretch.pins, 1).unwrap();
+            assert_eq!(jumped, *device);
         }
     }
+    totals
 }
 
-fn run_jumps(device: &mut Device, list: &[Stretch]) {
-    list.iter().for_each(|stretch| device.jump(stretch.pins, stretch.cycles).unwrap());
+fn run_jumps(device: &mut Device, list: &[Stretch]) -> Totals {
+    list.iter().map(|stretch| device.jump(stretch.pins, stretch.cycles).unwrap()).sum()
 }
 
-fn run_trace(device: &mut Device, list: &[Stretch]) {
+fn run_trace(device: &mut Device, list: &[Stretch]) -> Totals {
     let entries: Vec<u32> = list.iter().map(|stretch| entry(stretch.pins, stretch.cycles)).collect();
-    device.trace(&entries).unwrap();
+    device.trace(&entries).unwrap()
 }
 
 /// Cuts the list anywhere and runs some parts in single cycles, some in jumps and some in traces of several entries.
-fn run_mixed(device: &mut Device, list: &[Stretch], rng: &mut Rng) {
+fn run_mixed(device: &mut Device, list: &[Stretch], rng: &mut Rng) -> Totals {
     let parts = cut(rng, list);
     let mut rest = &parts[..];
+    let mut totals = Totals::default();
     while !rest.is_empty() {
         let (some, others) = rest.split_at(rng.between(1, rest.len().min(8) as u64) as usize);
-        rng.pick(&[run_cycles, run_jumps, run_trace])(device, some);
+        totals += rng.pick(&[run_cycles, run_jumps, run_trace])(device, some);
         rest = others;
     }
+    totals
 }
 
 /// Devices started alike and taken through the same cycles by single cycles, by jumps, by one trace and by any mix of
-/// them are equal in every field, and equal the model.
+/// them are equal in every field and have the same totals, and so has the model.
 #[test]
 fn any_cut_ends_alike() {
     let mut lists = 0;
+    let mut overflows = Totals::default();
     for seed in 0..4_000 {
         let rng = &mut Rng::part(6, seed);
         let device = raw_record(rng);
@@ -212,24 +232,27 @@ fn any_cut_ends_alike() {
             continue;
         }
         let list = stretches(rng);
-        let [mut cycled, mut jumped, mut traced, mut mixed] = [device; 4];
-        run_cycles(&mut cycled, &list);
-        run_jumps(&mut jumped, &list);
-        run_trace(&mut traced, &list);
-        run_mixed(&mut mixed, &list, rng);
         let mut model = to_model(&device);
-        for stretch in &list {
-            model.jump(stretch.pins, stretch.cycles).unwrap();
+        let jump = |stretch: &Stretch| totals_of(&model.jump(stretch.pins, stretch.cycles).unwrap());
+        let totals: Totals = list.iter().map(jump).sum();
+        let [mut cycled, mut jumped, mut traced, mut mixed] = [device; 4];
+        for (way, given, ended) in [
+            ("single cycles", run_cycles(&mut cycled, &list), cycled),
+            ("jumps", run_jumps(&mut jumped, &list), jumped),
+            ("a trace", run_trace(&mut traced, &list), traced),
+            ("a mix", run_mixed(&mut mixed, &list, rng), mixed),
+        ] {
+            assert_eq!((given, ended), (totals, of_model(&model)), "record {seed}, {way}: {list:?}");
         }
-        for (way, ended) in [("single cycles", cycled), ("jumps", jumped), ("a trace", traced), ("a mix", mixed)] {
-            assert_eq!(ended, of_model(&model), "record {seed}, {way}: {list:?}");
-        }
+        overflows += totals;
         lists += 1;
     }
     assert!(lists > 1_000, "{lists} lists");
+    assert!([overflows.timer0, overflows.timer1, overflows.timer2].iter().all(|&total| total > lists), "{overflows:?}");
 }
 
-/// The same of boards, with gates that change too: board cycles, board jumps and any mix of them.
+/// The same of boards, with gates that change too: board cycles, board jumps and any mix of them. The totals are those of
+/// board jumps, cut anywhere, and of the model.
 #[test]
 fn any_cut_of_a_board_ends_alike() {
     let mut lists = 0;
@@ -240,22 +263,26 @@ fn any_cut_of_a_board_ends_alike() {
             continue;
         }
         let list: Vec<(Stretch, u8)> = stretches(rng).into_iter().map(|part| (part, rng.byte() & GATES_HIGH)).collect();
-        let [mut cycled, mut jumped, mut mixed] = [board; 3];
+        let [mut cycled, mut jumped, mut parted, mut mixed] = [board; 4];
         let mut model = board_to_model(&board);
         let timer = model.timer.as_mut().expect("an 82C53 that is accepted");
         for &(Stretch { pins, cycles }, gates) in &list {
             (0..cycles).for_each(|_| assert!(cycled.cycle(pins, gates).is_ok()));
-            jumped.jump(pins, gates, cycles).unwrap();
+            let given = jumped.jump(pins, gates, cycles).unwrap();
+            let mut totals = Totals::default();
             for part in cut(rng, &[Stretch { pins, cycles }]) {
+                totals += parted.jump(pins, gates, part.cycles).unwrap().totals;
                 if rng.one_in(2) {
                     mixed.jump(pins, gates, part.cycles).unwrap();
                 } else {
                     (0..part.cycles).for_each(|_| assert!(mixed.cycle(pins, gates).is_ok()));
                 }
             }
-            board_jump(&mut model.device, timer, pins, gates, cycles).unwrap();
+            let (tally, outputs) = board_jump(&mut model.device, timer, pins, gates, cycles).unwrap();
+            assert_eq!(given, BoardJump { totals: totals_of(&tally), outputs }, "board {seed}: {list:?}");
+            assert_eq!(given.totals, totals, "board {seed}, in parts: {list:?}");
         }
-        for (way, ended) in [("cycles", cycled), ("jumps", jumped), ("a mix", mixed)] {
+        for (way, ended) in [("cycles", cycled), ("jumps", jumped), ("jumps of parts", parted), ("a mix", mixed)] {
             assert_eq!(ended, cycled, "board {seed}, {way}: {list:?}");
             assert_eq!(board_to_model(&ended), model, "board {seed}, {way}: {list:?}");
         }
@@ -413,6 +440,30 @@ fn a_difference_in_any_field_of_the_82c53_is_found() {
     let mut pair = good;
     pair.library.interval.counter1.format = 0;
     assert!(pair.run([Request::Dump]).is_err(), "a record that is not accepted");
+}
+
+/// A difference in the totals of a jump, a trace run and a jump of the board: Timer 0 of the model is a count behind.
+#[test]
+fn a_difference_in_the_totals_is_found() {
+    let mut device = Device::reset(52).unwrap();
+    for (address, value) in [(address::TMOD, 0x02), (address::TL0, 0xFF), (address::TCON, 0x10)] {
+        device.write(address, value).unwrap();
+    }
+    for request in [
+        Request::Call(Call::Jump(PINS_HIGH, 1)),
+        Request::Call(Call::Trace(vec![entry(PINS_HIGH, 1)])),
+        Request::Board(BoardCall::Jump(PINS_HIGH, GATES_HIGH, 1)),
+    ] {
+        let mut pair = Pair::of_record(device);
+        assert!(pair.clone().run([request.clone()]).is_ok_and(|tally| tally.overflowed == [1, 0, 0]), "{request}");
+        pair.model.device.tl0 -= 1;
+        let text = pair.run([request]).unwrap_err();
+        for (chip, timer0) in [("library", 1), ("model", 0)] {
+            let totals = Totals { timer0, ..Totals::default() };
+            let said = |line: &str| line.starts_with(&format!("the {chip} answers")) && line.contains(&format!("{totals:?}"));
+            assert!(text.lines().any(said), "{text}");
+        }
+    }
 }
 
 /// What the model has of an 82C53 is all of it, but for what stands beside a mark of 0.

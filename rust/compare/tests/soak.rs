@@ -11,9 +11,14 @@ fn a_small_soak() {
     let out = String::from_utf8(ran.stdout).expect("text");
     assert!(ran.status.success(), "{out}");
     assert!(out.starts_with("seed 3\n500 raw records in 9000 calls, ") && out.ends_with(" s: no difference\n"), "{out}");
-    let (_, outcomes) = out.split_once(" 2500 speeds (").expect("the speeds");
-    let (outcomes, _) = outcomes.split_once(')').expect("what they came to");
-    let counts: Vec<u64> = outcomes.split(' ').filter_map(|word| word.parse().ok()).collect();
+    let between = |before: &str, after: char| -> Vec<u64> {
+        let (_, rest) = out.split_once(before).expect("what stands before");
+        let (numbers, _) = rest.split_once(after).expect("what stands after");
+        numbers.split([' ', ',']).filter_map(|word| word.parse().ok()).collect()
+    };
+    let overflowed = between("runs with overflows of Timers 0, 1, 2: ", ';');
+    assert!(overflowed.len() == 3 && overflowed.iter().all(|&count| count > 20), "{out}");
+    let counts = between(" 2500 speeds (", ')');
     assert!(counts.len() == 3 && counts.iter().sum::<u64>() == 2_500 && counts.iter().all(|&count| count > 100), "{out}");
 }
 

@@ -39,9 +39,10 @@ pub fn write_answer(out: &mut impl Write, call: u64, row: &AnswerRow) -> Result<
 mod tests {
     use super::*;
 
-    fn text(call: u64, words: [u64; 3]) -> String {
+    /// The answer of these words, and zeros after them.
+    fn text(call: u64, words: &[u64]) -> String {
         let mut row = AnswerRow::default();
-        row[..3].copy_from_slice(&words);
+        row[..words.len()].copy_from_slice(words);
         let mut out = Vec::new();
         write_answer(&mut out, call, &row).expect("a vector grows");
         String::from_utf8(out).expect("text")
@@ -49,26 +50,32 @@ mod tests {
 
     #[test]
     fn passed() {
-        for call in [call::RESET, call::WRITE, call::JUMP, call::TRACE, call::RETURN] {
-            assert_eq!(text(call, [0, 0, 0]), "0 0\n");
+        for call in [call::RESET, call::WRITE, call::RETURN] {
+            assert_eq!(text(call, &[0, 0]), "0 0\n");
+        }
+        for call in [call::JUMP, call::TRACE] {
+            assert_eq!(text(call, &[0, 3, 2, 34, u64::MAX]), "0 0 2 34 18446744073709551615\n");
         }
         for call in [call::READ, call::CYCLE, call::LOOK, call::OFFER, call::TAKE, call::WAKE] {
-            assert_eq!(text(call, [0, 1, 43]), "0 43\n");
+            assert_eq!(text(call, &[0, 1, 43]), "0 43\n");
         }
-        assert_eq!(text(call::LOOK, [0, 1, u64::MAX]), "0 18446744073709551615\n");
-        assert_eq!(text(call::WAKE, [0, 1, 0]), "0 0\n");
+        assert_eq!(text(call::LOOK, &[0, 1, u64::MAX]), "0 18446744073709551615\n");
+        assert_eq!(text(call::WAKE, &[0, 1, 0]), "0 0\n");
         for call in [call::LOOK, call::OFFER, call::WAKE] {
-            assert_eq!(text(call, [0, NONE, 0]), "0 none\n");
+            assert_eq!(text(call, &[0, NONE]), "0 none\n");
         }
     }
 
     #[test]
     fn refused() {
-        for call in [call::RESET, call::WRITE, call::JUMP, call::TRACE, call::RETURN] {
-            assert_eq!(text(call, [8, 0, 0]), "8 0\n");
+        for call in [call::RESET, call::WRITE, call::RETURN] {
+            assert_eq!(text(call, &[8, 0]), "8 0\n");
+        }
+        for call in [call::JUMP, call::TRACE] {
+            assert_eq!(text(call, &[8, 3]), "8 0 0 0 0\n");
         }
         for call in [call::READ, call::CYCLE, call::LOOK, call::OFFER, call::TAKE, call::WAKE] {
-            assert_eq!(text(call, [255, 1, 0]), "255 0\n");
+            assert_eq!(text(call, &[255, 1]), "255 0\n");
         }
     }
 }

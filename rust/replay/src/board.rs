@@ -33,7 +33,8 @@ impl BoardCall {
         })
     }
 
-    /// Makes the call, and writes its code and numbers. A 0 stands in the place of a jump's value, as it does for the chip alone.
+    /// Makes the call, and writes its code and numbers. A jump's are those of the chip alone, with a 0 in the place of a
+    /// value, and then the outputs.
     pub fn answer(&self, board: &mut Board, out: &mut impl Write) -> Result<()> {
         let interval = &mut board.interval;
         match *self {
@@ -60,7 +61,7 @@ impl BoardCall {
             }
             BoardCall::Jump(pins, gates, n) => {
                 let a = c51_board_jump(board, pins, gates, n);
-                writeln!(out, "{} 0 {}", a.code, a.outputs)
+                writeln!(out, "{} 0 {} {} {} {}", a.code, a.totals.timer0, a.totals.timer1, a.totals.timer2, a.outputs)
             }
         }
     }

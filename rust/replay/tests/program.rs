@@ -100,7 +100,7 @@ fn very_long_lines() {
     let [zeros, letters, numbers] = ["0", "x", " 1"].map(|word| word.repeat(MEGABYTE));
     let parts = 24;
     for (first, part, last, answer) in [
-        (format!("T {}", parts * MEGABYTE / 8), &entries, "\n", "5 0\n"),
+        (format!("T {}", parts * MEGABYTE / 8), &entries, "\n", "5 0 0 0 0\n"),
         (format!("T {}", parts * MEGABYTE / 8), &entries, " 1\n", "? 3\n"),
         (format!("T {}", parts * MEGABYTE / 8 + 1), &entries, " 4294967296\n", "? 4\n"),
         ("r ".to_string(), &zeros, "136\n", "0 0\n"),

@@ -1,5 +1,5 @@
 //! What a station asks of its chips: the 80C52, and the 82C53 where it has one. No call that a station makes is refused.
-use c51::{Board, Device, Flag};
+use c51::{Board, Device, Flag, Totals};
 
 /// Machine cycles a second: 11.0592 MHz by 12.
 pub const CYCLES_A_SECOND: u64 = 921_600;
@@ -11,7 +11,8 @@ pub trait Chips {
     fn write(&mut self, address: u8, value: u8);
     /// One cycle of the 80C52 alone; gives the output line.
     fn cycle(&mut self, pins: u8) -> u8;
-    fn jump(&mut self, pins: u8, n: u64);
+    /// n cycles of the 80C52 alone; gives the overflows of its timers.
+    fn jump(&mut self, pins: u8, n: u64) -> Totals;
     fn wake_look(&self, pins: u8, n: u64) -> Option<u64>;
     fn take(&mut self) -> u8;
     fn return_from_interrupt(&mut self);
@@ -22,7 +23,8 @@ pub trait Chips {
 
     /// One cycle and one pulse of the 82C53; gives the output line.
     fn board_cycle(&mut self, pins: u8, gates: u8) -> u8;
-    fn board_jump(&mut self, pins: u8, gates: u8, n: u64);
+    /// n of them; gives the overflows of the timers.
+    fn board_jump(&mut self, pins: u8, gates: u8, n: u64) -> Totals;
     /// A byte of the 82C53.
     fn read_interval(&mut self, address: u8) -> u8;
     fn write_interval(&mut self, address: u8, byte: u8);
@@ -50,7 +52,7 @@ impl Chips for Board {
         self.device.cycle(pins).expect(PASSES)
     }
 
-    fn jump(&mut self, pins: u8, n: u64) {
+    fn jump(&mut self, pins: u8, n: u64) -> Totals {
         self.device.jump(pins, n).expect(PASSES)
     }
 
@@ -78,8 +80,8 @@ impl Chips for Board {
         self.cycle(pins, gates).expect(PASSES).0
     }
 
-    fn board_jump(&mut self, pins: u8, gates: u8, n: u64) {
-        self.jump(pins, gates, n).expect(PASSES);
+    fn board_jump(&mut self, pins: u8, gates: u8, n: u64) -> Totals {
+        self.jump(pins, gates, n).expect(PASSES).totals
     }
 
     fn read_interval(&mut self, address: u8) -> u8 {

@@ -1,7 +1,9 @@
 //! A frame on RXD: start bit 0, eight data bits from the lowest, stop bit 1, and noise in it.
 
-/// Cycles of a tick: Timer 1 overflows every third cycle (TH1 is FD), and with SMOD 0 every second overflow is a tick.
-pub const TICK: u64 = 6;
+/// Cycles of a lap of Timer 1: TH1 is FD, so that it overflows every third cycle.
+pub const LAP: u64 = 3;
+/// Cycles of a tick: with SMOD 0 every second overflow of Timer 1 is one.
+pub const TICK: u64 = 2 * LAP;
 /// Ticks of a bit, which the serial counters count.
 pub const TICKS: u64 = 16;
 /// Cycles of a bit: 9600 baud.

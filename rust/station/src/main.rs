@@ -1,8 +1,10 @@
-//! Eleven stations side by side: prints each tag with its station and cycle, and checks that every digit is the one sent. With
-//! `--speed`, which is used alone, it prints SMOD and TH1 for a crystal and a rate instead.
+//! Eleven stations side by side: prints each tag with its station and cycle, and how often Timer 1 of each station
+//! lapped, and checks that every digit is the one sent. With `--speed`, which is used alone, it prints SMOD and TH1 for a
+//! crystal and a rate instead.
 //! Exit status: 0 all as sent, or a speed found; 1 a wrong tag, or no speed within the tolerance; 2 a bad command line or a file
 //! that cannot be written.
 use station::options::{Options, USAGE};
+use station::run::{Ran, Row};
 use station::{report, run, speed};
 use std::fs::File;
 use std::io::{ErrorKind, Write};
@@ -57,19 +59,19 @@ fn main() {
     let tags = options.plan.tags;
     let start = Instant::now();
     let drawn = vcd.is_some().then_some(options.vcd_station);
-    let (rows, waveform) = run::run::<c51::Board>(&options.plan, drawn, |done| {
+    let Ran { rows, laps, waveform } = run::run::<c51::Board>(&options.plan, drawn, |done| {
         if done == tags || done % tags.div_ceil(10) == 0 {
             eprintln!("{done} of {tags} tags, {:.1} s", start.elapsed().as_secs_f64());
         }
     });
-    print(&report::table(&rows));
+    print(&report::table(&rows, &laps));
     if let Some(csv) = csv {
         csv.write(&report::csv(&rows));
     }
     if let (Some(vcd), Some(waveform)) = (vcd, waveform) {
         vcd.write(waveform.text());
     }
-    if !rows.iter().all(run::Row::right) {
+    if !rows.iter().all(Row::right) {
         fail(1, "a tag is not the one sent");
     }
 }

@@ -1,9 +1,9 @@
 //! One station: its chips, and its program, which sleeps in idle until the serial interrupt wakes it.
-use crate::chips::Chips;
+use crate::chips::{Chips, PASSES};
 use crate::frame::Stretch;
 use crate::timing::Timing;
 use crate::vcd::{Levels, Waveform};
-use c51::{address, flag, pcon, pin, Flag, PINS_HIGH};
+use c51::{address, flag, pcon, pin, Flag, Totals, PINS_HIGH};
 
 /// The vector of the serial port.
 const SERIAL_VECTOR: u8 = 0x23;
@@ -26,12 +26,16 @@ pub struct Received {
     pub cycle: u64,
     /// Whether its interrupt ended idle.
     pub woke: bool,
+    /// The overflows of Timer 1 from reset to its interrupt.
+    pub timer1_laps: u64,
 }
 
 pub struct Reader<C> {
     pub chips: C,
     /// What the program does with the 82C53, where the station has one.
     pub timing: Option<Timing>,
+    /// The overflows of its timers since reset.
+    pub totals: Totals,
     received: Vec<Received>,
     /// Takes every cycle between `watch(true)` and `watch(false)`.
     pub waveform: Option<Waveform>,
@@ -45,7 +49,8 @@ impl<C: Chips> Reader<C> {
         for (address, value) in SETUP {
             chips.write(address, value);
         }
-        let mut reader = Reader { chips, timing: None, received: Vec::new(), waveform: None, watching: false };
+        let (totals, received) = (Totals::default(), Vec::new());
+        let mut reader = Reader { chips, timing: None, totals, received, waveform: None, watching: false };
         reader.sleep();
         reader
     }
@@ -93,21 +98,25 @@ impl<C: Chips> Reader<C> {
     /// n cycles, and n pulses of the 82C53 where there is one.
     fn advance(&mut self, pins: u8, n: u64) {
         let (chips, gates) = (&mut self.chips, self.timing.as_ref().map(Timing::gates));
-        match &mut self.waveform {
+        self.totals += match &mut self.waveform {
             Some(waveform) if self.watching => {
+                let mut totals = Totals::default();
                 for _ in 0..n {
+                    // a single cycle gives the line; its overflows are those of a jump of 1, on a copy
+                    totals += chips.record().jump(pins, 1).expect(PASSES);
                     let line = match gates {
                         Some(gates) => chips.board_cycle(pins, gates),
                         None => chips.cycle(pins),
                     };
                     waveform.cycle(&chips.record(), Levels { pins, line, gates: gates.unwrap_or(0), outputs: chips.outputs() });
                 }
+                totals
             }
             _ => match gates {
                 Some(gates) => chips.board_jump(pins, gates, n),
                 None => chips.jump(pins, n),
             },
-        }
+        };
     }
 
     fn is_idle(&self) -> bool {
@@ -128,7 +137,7 @@ impl<C: Chips> Reader<C> {
         let woke = was_idle && !self.is_idle();
         let byte = self.chips.read(address::SBUF);
         let cycle = self.chips.last_rise(Flag::Ri).expect("RI rose: its interrupt is taken");
-        self.received.push(Received { byte, cycle, woke });
+        self.received.push(Received { byte, cycle, woke, timer1_laps: self.totals.timer1 });
         if let Some(timing) = &mut self.timing {
             timing.byte(&mut self.chips, byte);
         }
@@ -147,7 +156,7 @@ impl<C: Chips> Default for Reader<C> {
 #[cfg(test)]
 mod tests {
     use super::*;
-    use crate::frame::{frame, Noise, BIT, BITS, SAMPLES, TICK};
+    use crate::frame::{frame, Noise, BIT, BITS, LAP, SAMPLES, TICK};
     use crate::timing::{Time, CARRIAGE_RETURN, FLASH, LIMIT};
     use c51::{out, Board};
 
@@ -178,7 +187,8 @@ mod tests {
             let chip = reader.chips.device;
             let rise = chip.look_ahead(PINS_HIGH, BIT).unwrap().expect("RI rises");
             reader.hold(*stop);
-            assert_eq!(reader.take_received(), [Received { byte, cycle: chip.cycle + rise, woke: true }]);
+            let cycle = chip.cycle + rise;
+            assert_eq!(reader.take_received(), [Received { byte, cycle, woke: true, timer1_laps: cycle / LAP }]);
             let chip = reader.chips.device;
             assert_eq!((chip.pcon, chip.interrupts.low, chip.serial.scon & flag::RI), (0x08 | pcon::IDL, 0, 0));
         }
@@ -195,7 +205,33 @@ mod tests {
             let wake = reader.chips.wake_look(PINS_HIGH, BIT).expect("an interrupt");
             reader.hold(Stretch { rxd: 1, cycles: wake });
             let taken = reader.chips.device.cycle;
-            assert_eq!(reader.take_received(), [Received { byte: 0x39, cycle: taken - POLL, woke: true }]);
+            let received = Received { byte: 0x39, cycle: taken - POLL, woke: true, timer1_laps: taken / LAP };
+            assert_eq!(reader.take_received(), [received]);
+        }
+    }
+
+    /// The overflows of Timer 1 are those that single cycles show, TL1 being reloaded from FF, and one in three cycles: with
+    /// an 82C53 and without, by jumps and, for a waveform, by single cycles, bytes being served on the way.
+    #[test]
+    fn the_laps_of_timer_1() {
+        for (watching, mut reader) in
+            [false, true].into_iter().flat_map(|w| [(w, Reader::<Board>::new()), (w, Reader::with_interval())])
+        {
+            reader.waveform = Some(Waveform::new(1, reader.timing.is_some()));
+            reader.watch(watching);
+            let mut laps = 0;
+            for (pause, &byte) in b"271828\r".iter().enumerate() {
+                for stretch in [vec![Stretch { rxd: 1, cycles: BIT + pause as u64 }], frame(byte, None)].concat() {
+                    let mut chip = reader.chips.device;
+                    for _ in 0..stretch.cycles {
+                        laps += u64::from(chip.timers.tl1 == 0xFF);
+                        chip.cycle(if stretch.rxd == 1 { PINS_HIGH } else { PINS_HIGH & !pin::RXD }).unwrap();
+                    }
+                    reader.hold(stretch);
+                    assert_eq!(reader.totals, Totals { timer1: laps, ..Totals::default() });
+                }
+            }
+            assert_eq!((reader.take_received().len(), laps), (7, reader.chips.device.cycle / LAP));
         }
     }
 

@@ -1,6 +1,6 @@
-//! The tags that were read, as a table and as CSV.
+//! The tags that were read, as a table and as CSV, and how often Timer 1 lapped.
 use crate::chips::CYCLES_A_SECOND;
-use crate::run::{Row, DIGITS};
+use crate::run::{Laps, Row, DIGITS};
 use crate::timing::{Time, LIMIT};
 use std::collections::BTreeSet;
 
@@ -36,8 +36,9 @@ fn verdict(row: &Row) -> String {
     }
 }
 
-/// What a row shows: station, cycle, seconds, tag, noisy samples, time by the 82C53, cycle of the last digit, verdict.
-fn fields(row: &Row) -> [String; 8] {
+/// What a row of the CSV shows: station, cycle, seconds, tag, noisy samples, time by the 82C53, cycle of the last digit,
+/// laps of Timer 1, verdict.
+fn fields(row: &Row) -> [String; 9] {
     [
         row.station.to_string(),
         row.cycle.to_string(),
@@ -46,15 +47,17 @@ fn fields(row: &Row) -> [String; 8] {
         row.noisy_samples.to_string(),
         time(row),
         last_digit(row),
+        row.timer1_laps.to_string(),
         verdict(row),
     ]
 }
 
-pub fn table(rows: &[Row]) -> String {
+/// The tags, of which it leaves out the laps up to each, then the laps of each station in the run, and a summary.
+pub fn table(rows: &[Row], laps: &[Laps]) -> String {
     let (cycle, seconds, tag) = ("cycle", "seconds", "tag");
     let mut text = format!("station {cycle:>16} {seconds:>14}  {tag:<15} noisy samples  ms by 82C53  last digit cycle  verdict\n");
     for row in rows {
-        let [station, cycle, seconds, tag, noisy_samples, time, last_digit, verdict] = fields(row);
+        let [station, cycle, seconds, tag, noisy_samples, time, last_digit, _, verdict] = fields(row);
         text += &format!("{station:>7} {cycle:>16} {seconds:>14}  {tag:<15} {noisy_samples:>13}  {time:>11}  ");
         text += &format!("{last_digit:>16}  {verdict}\n");
     }
@@ -62,12 +65,22 @@ pub fn table(rows: &[Row]) -> String {
     let noisy: u64 = rows.iter().map(|row| row.noisy_samples).sum();
     let woken: usize = rows.iter().map(|row| row.woken).sum();
     let (tags, digits) = (rows.len(), rows.len() * DIGITS);
+    text += &lapped(laps);
     text += &timed(rows);
     text += &match wrong {
         0 => format!("{tags} tags, {digits} digits, all as sent"),
         _ => format!("{tags} tags, {wrong} of them WRONG"),
     };
     text += &format!("; {noisy} noisy samples; woken from idle {woken} times\n");
+    text
+}
+
+/// A line for each station, under the first columns of the table: how often its Timer 1 overflowed, and in which time.
+fn lapped(laps: &[Laps]) -> String {
+    let mut text = format!("station {:>16} {:>14}\n", "Timer 1 laps", "in seconds");
+    for Laps { station, timer1, cycles } in laps {
+        text += &format!("{station:>7} {timer1:>16} {:>14.6}\n", seconds(*cycles));
+    }
     text
 }
 
@@ -92,7 +105,7 @@ fn timed(rows: &[Row]) -> String {
 }
 
 pub fn csv(rows: &[Row]) -> String {
-    let mut text = String::from("station,cycle,seconds,tag,noisy_samples,ms_by_82c53,last_digit_cycle,verdict\n");
+    let mut text = String::from("station,cycle,seconds,tag,noisy_samples,ms_by_82c53,last_digit_cycle,timer1_laps,verdict\n");
     for row in rows {
         text += &fields(row).join(",");
         text += "\n";

@@ -42,6 +42,8 @@ pub struct Row {
     pub time: Option<Time>,
     /// The cycle in which RI rose for the last digit, where the tag has one.
     pub last_digit: Option<u64>,
+    /// The overflows of Timer 1 from the station's reset to the last byte.
+    pub timer1_laps: u64,
 }
 
 impl Row {
@@ -98,12 +100,13 @@ impl<C: Chips> Station<C> {
         self.reader.hold(Stretch { rxd: 1, cycles: BIT });
         self.reader.fish(false);
         let received = self.reader.take_received();
-        let cycle = received.last().map_or(0, |last| last.cycle);
+        let (cycle, timer1_laps) = received.last().map_or((0, 0), |last| (last.cycle, last.timer1_laps));
         let woken = received.iter().filter(|r| r.woke).count();
         let bytes: Vec<u8> = received.iter().map(|r| r.byte).collect();
         let tag = shown(&bytes);
         let time = self.reader.timing.as_mut().map(Timing::take_time);
-        Row { station: self.number, cycle, tag, sent, noisy_samples, woken, time, last_digit: last_digit(&received) }
+        let last_digit = last_digit(&received);
+        Row { station: self.number, cycle, tag, sent, noisy_samples, woken, time, last_digit, timer1_laps }
     }
 }
 
@@ -125,8 +128,26 @@ fn shown(bytes: &[u8]) -> String {
     bytes.iter().map(digit).collect::<String>() + end
 }
 
-/// Runs the plan, a tag at a time over all stations; the rows come in the order of their cycles. One station may draw a waveform.
-pub fn run<C: Chips>(plan: &Plan, drawn: Option<usize>, mut progress: impl FnMut(u64)) -> (Vec<Row>, Option<Waveform>) {
+/// How often Timer 1 of a station overflowed in a run, and in how many cycles.
+#[derive(Clone, Copy, PartialEq, Eq, Debug)]
+pub struct Laps {
+    /// From 1.
+    pub station: usize,
+    pub timer1: u64,
+    pub cycles: u64,
+}
+
+/// What a run gives.
+pub struct Ran {
+    /// In the order of their cycles.
+    pub rows: Vec<Row>,
+    /// Of each station that was sent a tag.
+    pub laps: Vec<Laps>,
+    pub waveform: Option<Waveform>,
+}
+
+/// Runs the plan, a tag at a time over all stations. One station may draw a waveform.
+pub fn run<C: Chips>(plan: &Plan, drawn: Option<usize>, mut progress: impl FnMut(u64)) -> Ran {
     let mut stations: Vec<Station<C>> = (1..=plan.stations).map(|number| Station::new(number, plan.seed)).collect();
     if let Some(number) = drawn {
         let reader = &mut stations[number - 1].reader;
@@ -140,13 +161,22 @@ pub fn run<C: Chips>(plan: &Plan, drawn: Option<usize>, mut progress: impl FnMut
         progress(number + 1);
     }
     rows.sort_by_key(|row| (row.cycle, row.station));
-    (rows, stations.into_iter().find_map(|station| station.reader.waveform))
+    let laps = |Station { number, reader, .. }: &Station<C>| Laps {
+        station: *number,
+        timer1: reader.totals.timer1,
+        cycles: reader.chips.record().cycle,
+    };
+    Ran {
+        rows,
+        laps: stations.iter().map(laps).filter(|laps| laps.cycles > 0).collect(),
+        waveform: stations.into_iter().find_map(|station| station.reader.waveform),
+    }
 }
 
 #[cfg(test)]
 mod tests {
     use super::*;
-    use crate::frame::TICK;
+    use crate::frame::{LAP, TICK};
     use c51::{pin, Board, Device, PINS_HIGH};
 
     /// The cycle of a stretch in which a flag first rises: single cycles, and before each a look ahead over it.
@@ -188,7 +218,7 @@ mod tests {
     #[test]
     fn a_tag_without_a_last_digit() {
         let received = |bytes: &[u8]| -> Vec<Received> {
-            bytes.iter().zip(7..).map(|(&byte, cycle)| Received { byte, cycle, woke: true }).collect()
+            bytes.iter().zip(7..).map(|(&byte, cycle)| Received { byte, cycle, woke: true, timer1_laps: cycle / LAP }).collect()
         };
         for (bytes, expected) in [
             (&b"12345\r"[..], Some(11)),

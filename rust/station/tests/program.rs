@@ -35,7 +35,7 @@ fn eleven_stations_read_what_was_sent() {
     assert!(noisy > 20);
     let summary = format!("22 tags, 330 digits, all as sent; {noisy} noisy samples; woken from idle 352 times");
     assert_eq!(out.lines().last(), Some(summary.as_str()));
-    assert_eq!(out.lines().count(), 1 + 22 + 2);
+    assert_eq!(out.lines().count(), 1 + 22 + 1 + 11 + 2);
     let progress = text(&ran.stderr);
     assert!(progress.starts_with("3 of 22 tags,") && progress.contains("\n22 of 22 tags,"), "{progress}");
 }
@@ -47,10 +47,45 @@ fn the_csv_is_the_table() {
     assert!(ran.status.success());
     let table = text(&ran.stdout);
     let csv = std::fs::read_to_string(&file).unwrap();
-    assert_eq!(csv.lines().next(), Some("station,cycle,seconds,tag,noisy_samples,ms_by_82c53,last_digit_cycle,verdict"));
+    let header = "station,cycle,seconds,tag,noisy_samples,ms_by_82c53,last_digit_cycle,timer1_laps,verdict";
+    assert_eq!(csv.lines().next(), Some(header));
     assert_eq!(csv.lines().count(), 6);
     for (row, line) in table.lines().skip(1).zip(csv.lines().skip(1)) {
-        assert_eq!(row.split_whitespace().collect::<Vec<&str>>().join(","), line.replace("as sent", "as,sent"));
+        let mut fields: Vec<&str> = line.split([',', ' ']).collect();
+        fields.remove(7); // the laps of Timer 1 up to the tag
+        assert_eq!(row.split_whitespace().collect::<Vec<&str>>(), fields);
+    }
+}
+
+/// Timer 1 laps every third cycle from reset on: up to a tag in a third of its cycles, in the run in a third of the
+/// station's. It does so with an 82C53 and without, and a waveform, for which a station goes by single cycles, alters
+/// nothing. Only stations that were sent a tag are listed.
+#[test]
+fn the_laps_of_timer_1() {
+    for (line, stations) in [("--tags 7 --gap 0.05 --stations 3", 3), ("--tags 3 --gap 2 --stations 1000", 3)] {
+        let [csv, vcd] = ["laps.csv", "laps.vcd"].map(scratch);
+        let table = text(&station(&format!("{line} --csv {}", csv.display())).stdout);
+        let rows = std::fs::read_to_string(&csv).unwrap();
+        let rows: Vec<Vec<&str>> = rows.lines().skip(1).map(|row| row.split(',').collect()).collect();
+        let number = |word: &str| word.parse::<u64>().expect("a number");
+        let laps: Vec<Vec<&str>> =
+            table.lines().skip(rows.len() + 2).take(stations).map(|line| line.split_whitespace().collect()).collect();
+        assert_eq!(table.lines().nth(rows.len() + 1), Some("station     Timer 1 laps     in seconds"));
+        assert_eq!(laps.iter().map(|line| number(line[0])).collect::<Vec<u64>>(), (1..=stations as u64).collect::<Vec<u64>>());
+        assert_eq!(table.lines().count(), 1 + rows.len() + 1 + stations + 2);
+        for row in &rows {
+            assert_eq!(number(row[7]), number(row[1]) / 3, "{row:?}");
+        }
+        for line in &laps {
+            let cycles = (line[2].parse::<f64>().expect("seconds") * 921_600.0).round() as u64;
+            assert_eq!(number(line[1]), cycles / 3, "{line:?}");
+            let last = rows.iter().filter(|row| row[0] == line[0]).map(|row| number(row[1])).max().expect("a tag");
+            assert!((last..last + 2 * 96).contains(&cycles), "{line:?} to the end of the stop bit and a bit more");
+        }
+        for drawn in 1..=stations {
+            let ran = station(&format!("{line} --vcd {} --vcd-station {drawn}", vcd.display()));
+            assert_eq!(text(&ran.stdout), table, "a waveform of station {drawn}");
+        }
     }
 }
 
@@ -70,10 +105,9 @@ fn chosen_tags() {
     assert!(out.ends_with("2 tags, 30 digits, all as sent; 0 noisy samples; woken from idle 32 times\n"));
 }
 
-/// The rows of a table as words; its first line and the last two are none.
+/// The rows of a table as words: from its first line to the laps of the stations.
 fn rows(table: &str) -> Vec<Vec<&str>> {
-    let lines: Vec<&str> = table.lines().collect();
-    lines[1..lines.len() - 2].iter().map(|line| line.split_whitespace().collect()).collect()
+    table.lines().skip(1).take_while(|line| !line.starts_with("station")).map(|line| line.split_whitespace().collect()).collect()
 }
 
 fn milliseconds(time: &str) -> f64 {

@@ -72,7 +72,8 @@ fn waveform(file: &str, line: &str) -> Vcd {
     Vcd::read(&std::fs::read_to_string(&path).expect("a waveform"))
 }
 
-/// Also in the table: a row has the cycles of its last two frames, that of the last digit as the flag times of the chip have it.
+/// Also in the table: a row has the cycles of its last two frames, that of the last digit as the flag times of the chip
+/// have it, and the laps of Timer 1 up to there, one in three cycles.
 #[test]
 fn every_frame_is_found() {
     let tags = ["271828182845904", "314159265358979"];
@@ -125,7 +126,7 @@ fn every_frame_is_found() {
     let rows: Vec<Vec<&str>> = csv.lines().skip(1).map(|row| row.split(',').collect()).collect();
     assert_eq!(rows.len(), 2);
     for (row, rises) in rows.iter().zip(rises.chunks(16)) {
-        assert_eq!((row[6], row[1]), (rises[14].to_string().as_str(), rises[15].to_string().as_str()));
+        assert_eq!([row[6], row[1], row[7]].map(str::to_string), [rises[14], rises[15], rises[15] / 3].map(|n| n.to_string()));
     }
     assert!(starts[16] - starts[15] > 276_480, "the gap lies between the tags");
 }

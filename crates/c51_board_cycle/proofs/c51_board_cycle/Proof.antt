@@ -15,7 +15,7 @@ use Rattle.board.proofs.cycle.Symbol.{name as #board·cycle}
 use Rattle.board.proofs.cycle.Met as cycle-thm
 use Rattle.c51_board_cycle.proofs.BoardAnswer as N
 use Rattle.c51_board_cycle.proofs.BoardAnswer.Laws as N′
-use Rattle.lent.proofs.Lent.{value, in-field, Bytes, none, _and_, some-bytes, number, Passed, values, in-order, asks-nothing, exported}
+use Rattle.lent.proofs.Lent.{value, in-field, Pieces, none, _and_, some-pieces, number, Passed, values, in-order, asks-nothing, exported}
 use Rattle.board.proofs.Structs.{board, cycle-carries, cycle-code, cycle-line, cycle-outputs}
 use Rattle.c51_board_cycle.proofs.c51_board_cycle.Key.{name as #c51-board-cycle·c51-board-cycle}
 use Rattle.c51_board_cycle.proofs.c51_board_cycle as lent
@@ -25,7 +25,7 @@ use Rattle.c51_board_cycle.proofs.c51_board_cycle.Code as code
 abbrev params : List (Passed 1)
 params = number w8 ∷ number w8 ∷ []
 
-abbrev numbers : Bytes (cycle-code and cycle-line and cycle-outputs and none) N.the-type
+abbrev numbers : Pieces (cycle-code and cycle-line and cycle-outputs and none) N.the-type
 numbers = record {
   make = λ r. record { code = r .code; line = r .line; outputs = r .outputs };
   plains = N′.the-plain;
@@ -36,7 +36,7 @@ numbers = record {
 pub c51-board-cycle-spec : {M : Type 1} → stated.statement M
 unfolding code.routine
 c51-board-cycle-spec 𝓤 H 𝓜 𝓖 𝓡 =
-    exported 𝓤 H 𝓜 𝓖 𝓡 code.env #c51-board-cycle·c51-board-cycle (in-field 3 cycle-carries) (in-order params R.mir) (some-bytes (cycle-code and cycle-line and cycle-outputs and none) N.the-type numbers) #board·cycle (code.unfolded 𝓤 H 𝓜 𝓡) (lent.clauses 𝓤 H (𝓖 .A) (𝓜 .mem) (𝓡 .run))
+    exported 𝓤 H 𝓜 𝓖 𝓡 code.env #c51-board-cycle·c51-board-cycle (in-field 3 cycle-carries) (in-order params R.mir) (some-pieces (cycle-code and cycle-line and cycle-outputs and none) N.the-type numbers) #board·cycle (code.unfolded 𝓤 H 𝓜 𝓡) (lent.clauses 𝓤 H (𝓖 .A) (𝓜 .mem) (𝓡 .run))
     (tripleOf 𝓤 H (𝓖 .A) cycle.signature (cycle.spec 𝓤 H (𝓖 .A) (𝓜 .mem) (𝓡 .run))) cycle-def.routine code.calls-board·cycle (cycle-thm.met 𝓤 H 𝓜 𝓖 𝓡)
     record {
       Told = λ κs h a r ws. r ≡ cycleAnswer h (a .0) (a .1 .0);

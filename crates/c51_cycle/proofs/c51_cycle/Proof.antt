@@ -15,7 +15,7 @@ use Rattle.c51_run.proofs.cycle.Symbol.{name as #c51-run·cycle}
 use Rattle.c51_run.proofs.cycle.Met as cycle-thm
 use Rattle.c51_cycle.proofs.LineAnswer as N
 use Rattle.c51_cycle.proofs.LineAnswer.Laws as N′
-use Rattle.lent.proofs.Lent.{value, in-field, Bytes, none, _and_, some-bytes, number, Passed, values, in-order, asks-nothing, exported}
+use Rattle.lent.proofs.Lent.{value, in-field, Pieces, none, _and_, some-pieces, number, Passed, values, in-order, asks-nothing, exported}
 use Rattle.lent.proofs.Structs.{device, cycle-answer-carries, cycle-code, cycle-line}
 use Rattle.c51_cycle.proofs.c51_cycle.Key.{name as #c51-cycle·c51-cycle}
 use Rattle.c51_cycle.proofs.c51_cycle as lent
@@ -25,7 +25,7 @@ use Rattle.c51_cycle.proofs.c51_cycle.Code as code
 abbrev params : List (Passed 1)
 params = number w8 ∷ []
 
-abbrev numbers : Bytes (cycle-code and cycle-line and none) N.the-type
+abbrev numbers : Pieces (cycle-code and cycle-line and none) N.the-type
 numbers = record {
   make = λ r. record { code = r .code; line = r .line };
   plains = N′.the-plain;
@@ -36,7 +36,7 @@ numbers = record {
 pub c51-cycle-spec : {M : Type 1} → stated.statement M
 unfolding code.routine
 c51-cycle-spec 𝓤 H 𝓜 𝓖 𝓡 =
-    exported 𝓤 H 𝓜 𝓖 𝓡 code.env #c51-cycle·c51-cycle (in-field 2 cycle-answer-carries) (in-order params R.mir) (some-bytes (cycle-code and cycle-line and none) N.the-type numbers) #c51-run·cycle (code.unfolded 𝓤 H 𝓜 𝓡) (lent.clauses 𝓤 H (𝓖 .A) (𝓜 .mem) (𝓡 .run))
+    exported 𝓤 H 𝓜 𝓖 𝓡 code.env #c51-cycle·c51-cycle (in-field 2 cycle-answer-carries) (in-order params R.mir) (some-pieces (cycle-code and cycle-line and none) N.the-type numbers) #c51-run·cycle (code.unfolded 𝓤 H 𝓜 𝓡) (lent.clauses 𝓤 H (𝓖 .A) (𝓜 .mem) (𝓡 .run))
     (tripleOf 𝓤 H (𝓖 .A) cycle.signature (cycle.spec 𝓤 H (𝓖 .A) (𝓜 .mem) (𝓡 .run))) cycle-def.routine code.calls-c51-run·cycle (cycle-thm.met 𝓤 H 𝓜 𝓖 𝓡)
     record {
       Told = λ κs h a r ws. r ≡ cycleAnswer h (a .0);

@@ -6,6 +6,7 @@ use Rattle.machine.specs.Cycle.{cycleOf}
 use Rattle.cycle.proofs.Keeps.{cycle-accepted, sends-within}
 use Rattle.cycle.proofs.Steps.{cycle-reaches}
 use Rattle.laws.proofs.Sleep.{cycle-down}
+use Rattle.totals.proofs.Sums.{none-low}
 use borrow.Author.Needs.{needs}
 use Rattle.laws.proofs.Guards.{yes, no}
 use Rattle.c51_run.proofs.cycle.Statement.{statement}
@@ -38,28 +39,30 @@ returns-3 c =
 
 -- out of it
 cycle-once-requires : tie.Need-cycle-once-requires
-cycle-once-requires c κs = let p = c .before .before .before .before in yes (p .before .before .accepts .ensures) (p .before .if1 .left)
+cycle-once-requires c κs =
+    let p = c .before .before .before .before .before in
+    (yes (p .before .before .accepts .ensures) (p .before .if1 .left), none-low (c .before .none .ensures))
 
 passed-cycle-requires-2 : tie.Need-passed-cycle-requires-2
 passed-cycle-requires-2 c κs =
     let l = c .before in
-    let w = l .before .before in
+    let w = l .before .before .before in
     let p = w .before .before in
     let x = p .before .before .before .args in
     let ok = yes (p .before .before .accepts .ensures) (p .before .if1 .left) in
-    let up = sym (w .powered-down .ensures) ∙ l .before .if3 .left in
-    rw (cycle-reaches (x .pins) (x .d) up (l .pins-of .ensures) (c .cycle-once .ensures)) (sends-within (cycleOf (x .pins) (x .d)) (cycle-accepted (x .pins) (x .d) ok))
+    let up = sym (w .powered-down .ensures) ∙ l .before .before .if3 .left in
+    rw (cycle-reaches (x .pins) (x .d) up (l .pins-of .ensures) (c .cycle-once .ensures .1)) (sends-within (cycleOf (x .pins) (x .d)) (cycle-accepted (x .pins) (x .d) ok))
 
 returns-4 : tie.Need-returns-4
 unfolding cycleAnswer
 returns-4 c =
     let o = c .before in
     let l = o .before in
-    let w = l .before .before in
+    let w = l .before .before .before in
     let p = w .before .before in
     let x = p .before .before .before .args in
-    let up = sym (w .powered-down .ensures) ∙ l .before .if3 .left in
-    let reaches = cycle-reaches (x .pins) (x .d) up (l .pins-of .ensures) (o .cycle-once .ensures) in
+    let up = sym (w .powered-down .ensures) ∙ l .before .before .if3 .left in
+    let reaches = cycle-reaches (x .pins) (x .d) up (l .pins-of .ensures) (o .cycle-once .ensures .1) in
     rw (yes (p .before .before .accepts .ensures) (p .before .if1 .left), yes (p .pins-ok .ensures) (w .before .if2 .left), ← reaches) (c .passed-cycle2 .ensures)
 
 pub cycle-spec : {M : Type 1} → statement M
@@ -75,6 +78,7 @@ cycle-spec =
     (search needs)
     passed-cycle-requires
     returns-3
+    (search needs)
     (search needs)
     cycle-once-requires
     passed-cycle-requires-2

@@ -1,9 +1,11 @@
--- A trace run answers what the plain machine answers: the record, then the entries judged whole, then their cycles in turn.
+-- A trace run answers what the plain machine answers: the record, then the entries judged whole, then their cycles in turn and the
+-- overflows in them.
 use mathlib.Core.Path.{sym, _∙_}
 use borrow.Author.Tests.{eq-eqb, ne-eqb}
-use Rattle.machine.specs.Calls.{traceAnswer}
+use Rattle.machine.specs.Calls.{passedRun, traceAnswer}
 use borrow.Author.Needs.{needs}
 use Rattle.laws.proofs.Guards.{yes, no}
+use Rattle.c51_run.proofs.Faults.{few-entries}
 use Rattle.c51_run.proofs.trace.Statement.{statement}
 use Rattle.c51_run.proofs.trace.Tie as tie
 
@@ -19,14 +21,18 @@ returns-2 c =
     rw (yes (f .before .before .accepts .ensures) (f .before .if1 .left), ne-eqb _ _ (λ z. c .before .if2 .taken (e ∙ z)), ← e) (c .refuse-run2 .ensures)
 
 run-entries-requires : tie.Need-run-entries-requires
-run-entries-requires c κs = let f = c .before in yes (f .before .before .accepts .ensures) (f .before .if1 .left)
+run-entries-requires c κs =
+    let f = c .before in
+    (yes (f .before .before .accepts .ensures) (f .before .if1 .left), few-entries _ (sym (f .trace-fault .ensures) ∙ c .if2 .left))
 
 returns-3 : tie.Need-returns-3
 unfolding traceAnswer
 returns-3 c =
     let r = c .before in
     let f = r .before .before in
-    rw (yes (f .before .before .accepts .ensures) (f .before .if1 .left), eq-eqb _ _ (sym (f .trace-fault .ensures) ∙ r .before .if2 .left), ← r .run-entries .ensures) (c .passed-run .ensures)
+    let ran = r .run-entries .ensures in
+    rw (yes (f .before .before .accepts .ensures) (f .before .if1 .left), eq-eqb _ _ (sym (f .trace-fault .ensures) ∙ r .before .if2 .left))
+    (c .passed-run .ensures ∙ (λ i. passedRun (ran .0 i) (ran .1 i)))
 
 pub trace-spec : {M : Type 1} → statement M
 trace-spec =

@@ -14,7 +14,7 @@ use Rattle.c51_interrupt.proofs.take.Symbol.{name as #c51-interrupt·take}
 use Rattle.c51_interrupt.proofs.take.Met as take-thm
 use Rattle.c51_take.proofs.VectorAnswer as N
 use Rattle.c51_take.proofs.VectorAnswer.Laws as N′
-use Rattle.lent.proofs.Lent.{value, in-field, Bytes, none, _and_, some-bytes, Passed, values, in-order, asks-nothing, exported}
+use Rattle.lent.proofs.Lent.{value, in-field, Pieces, none, _and_, some-pieces, Passed, values, in-order, asks-nothing, exported}
 use Rattle.lent.proofs.Structs.{device, take-answer-carries, take-code, take-vector}
 use Rattle.c51_take.proofs.c51_take.Key.{name as #c51-take·c51-take}
 use Rattle.c51_take.proofs.c51_take as lent
@@ -24,7 +24,7 @@ use Rattle.c51_take.proofs.c51_take.Code as code
 abbrev params : List (Passed 1)
 params = []
 
-abbrev numbers : Bytes (take-code and take-vector and none) N.the-type
+abbrev numbers : Pieces (take-code and take-vector and none) N.the-type
 numbers = record {
   make = λ r. record { code = r .code; vector = r .vector };
   plains = N′.the-plain;
@@ -35,7 +35,7 @@ numbers = record {
 pub c51-take-spec : {M : Type 1} → stated.statement M
 unfolding code.routine
 c51-take-spec 𝓤 H 𝓜 𝓖 𝓡 =
-    exported 𝓤 H 𝓜 𝓖 𝓡 code.env #c51-take·c51-take (in-field 2 take-answer-carries) (in-order params R.mir) (some-bytes (take-code and take-vector and none) N.the-type numbers) #c51-interrupt·take (code.unfolded 𝓤 H 𝓜 𝓡) (lent.clauses 𝓤 H (𝓖 .A) (𝓜 .mem) (𝓡 .run))
+    exported 𝓤 H 𝓜 𝓖 𝓡 code.env #c51-take·c51-take (in-field 2 take-answer-carries) (in-order params R.mir) (some-pieces (take-code and take-vector and none) N.the-type numbers) #c51-interrupt·take (code.unfolded 𝓤 H 𝓜 𝓡) (lent.clauses 𝓤 H (𝓖 .A) (𝓜 .mem) (𝓡 .run))
     (tripleOf 𝓤 H (𝓖 .A) take.signature (take.spec 𝓤 H (𝓖 .A) (𝓜 .mem) (𝓡 .run))) take-def.routine code.calls-c51-interrupt·take (take-thm.met 𝓤 H 𝓜 𝓖 𝓡)
     record {
       Told = λ κs h a r ws. r ≡ takeAnswer h;

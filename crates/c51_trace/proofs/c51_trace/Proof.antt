@@ -4,6 +4,7 @@ use mathlib.Core.List.{[], _∷_, List}
 use mir.Syntax.{w32}
 use base.Logic.{emp, id⊢}
 use contract.Monad.{factI}
+use denote.Struct.Laws as LL
 use denote.Triple.Spec.{tripleOf}
 use Rattle.machine.specs.Calls.{traceAnswer}
 use Rattle.machine.specs.declared.RunAnswer.{RunAnswer}
@@ -12,8 +13,10 @@ use Rattle.c51_run.proofs.trace as trace
 use Rattle.c51_run.proofs.trace.Symbol as trace-def
 use Rattle.c51_run.proofs.trace.Symbol.{name as #c51-run·trace}
 use Rattle.c51_run.proofs.trace.Met as trace-thm
-use Rattle.lent.proofs.Lent.{value, in-field, one-byte, read-slice, Passed, values, in-order, asks-nothing, exported}
-use Rattle.lent.proofs.Structs.{device, run-answer-carries, run-code}
+use Rattle.c51_trace.proofs.Traced as N
+use Rattle.c51_trace.proofs.Traced.Laws as N′
+use Rattle.lent.proofs.Lent.{value, in-field, Pieces, none, _and_, _with_, some-pieces, read-slice, Passed, values, in-order, asks-nothing, exported}
+use Rattle.lent.proofs.Structs.{device, run-answer-carries, run-code, run-totals, totals-typed}
 use Rattle.c51_trace.proofs.c51_trace.Key.{name as #c51-trace·c51-trace}
 use Rattle.c51_trace.proofs.c51_trace as lent
 use Rattle.c51_trace.proofs.c51_trace.Statement as stated
@@ -22,10 +25,18 @@ use Rattle.c51_trace.proofs.c51_trace.Code as code
 abbrev params : List (Passed 2)
 params = read-slice 1 tt w32 ∷ []
 
+abbrev numbers : Pieces (run-code and run-totals with none) N.the-type
+numbers = record {
+  make = λ r. record { code = r .code; totals = r .totals };
+  plains = N′.the-plain;
+  typed = λ r fits. (tt, (record { fits = fits .0 }, (totals-typed (r .totals) (fits .1 .0), tt)));
+  is = λ r fits. LL.owes N.the-type N′.the-laws (record { code = r .code; totals = r .totals }) ((refl, fits .0), (fits .1 .0, tt));
+}
+
 pub c51-trace-spec : {M : Type 1} → stated.statement M
 unfolding code.routine
 c51-trace-spec 𝓤 H 𝓜 𝓖 𝓡 =
-    exported 𝓤 H 𝓜 𝓖 𝓡 code.env #c51-trace·c51-trace (in-field 1 run-answer-carries) (in-order params R.mir) (one-byte 0 run-code) #c51-run·trace (code.unfolded 𝓤 H 𝓜 𝓡) (lent.clauses 𝓤 H (𝓖 .A) (𝓜 .mem) (𝓡 .run))
+    exported 𝓤 H 𝓜 𝓖 𝓡 code.env #c51-trace·c51-trace (in-field 2 run-answer-carries) (in-order params R.mir) (some-pieces (run-code and run-totals with none) N.the-type numbers) #c51-run·trace (code.unfolded 𝓤 H 𝓜 𝓡) (lent.clauses 𝓤 H (𝓖 .A) (𝓜 .mem) (𝓡 .run))
     (tripleOf 𝓤 H (𝓖 .A) trace.signature (trace.spec 𝓤 H (𝓖 .A) (𝓜 .mem) (𝓡 .run))) trace-def.routine code.calls-c51-run·trace (trace-thm.met 𝓤 H 𝓜 𝓖 𝓡)
     record {
       Told = λ κs h a r ws. r ≡ traceAnswer h (a .0 .now);
@@ -33,5 +44,5 @@ c51-trace-spec 𝓤 H 𝓜 𝓖 𝓡 =
       args = λ κs qs h a. refl;
       asks = λ κs qs h a. asks-nothing 𝓤 _;
       gives = λ κs qs h a v. id⊢ 𝓤 _;
-      shows = λ κs x a g r ws told. factI 𝓤 _ (emp 𝓤) (ap (λ (y : RunAnswer). y .code) told, ap (λ (y : RunAnswer). y .device) told);
+      shows = λ κs x a g r ws told. factI 𝓤 _ (emp 𝓤) (ap (λ (y : RunAnswer). y .code) told, (ap (λ (y : RunAnswer). y .totals) told, ap (λ (y : RunAnswer). y .device) told));
     }

@@ -15,7 +15,7 @@ use Rattle.c53.proofs.read.Symbol.{name as #c53·read}
 use Rattle.c53.proofs.read.Met as read-thm
 use Rattle.c53_lent.proofs.ValueAnswer as N
 use Rattle.c53_lent.proofs.ValueAnswer.Laws as N′
-use Rattle.lent.proofs.Lent.{value, in-field, Bytes, none, _and_, some-bytes, number, Passed, values, in-order, asks-nothing, exported}
+use Rattle.lent.proofs.Lent.{value, in-field, Pieces, none, _and_, some-pieces, number, Passed, values, in-order, asks-nothing, exported}
 use Rattle.c53_lent.proofs.Structs.{interval, read-carries, read-code, read-value}
 use Rattle.c53_lent.proofs.c53_read.Key.{name as #c53-lent·c53-read}
 use Rattle.c53_lent.proofs.c53_read as lent
@@ -25,7 +25,7 @@ use Rattle.c53_lent.proofs.c53_read.Code as code
 abbrev params : List (Passed 1)
 params = number w8 ∷ []
 
-abbrev numbers : Bytes (read-code and read-value and none) N.the-type
+abbrev numbers : Pieces (read-code and read-value and none) N.the-type
 numbers = record {
   make = λ r. record { code = r .code; value = r .value };
   plains = N′.the-plain;
@@ -36,7 +36,7 @@ numbers = record {
 pub c53-read-spec : {M : Type 1} → stated.statement M
 unfolding code.routine
 c53-read-spec 𝓤 H 𝓜 𝓖 𝓡 =
-    exported 𝓤 H 𝓜 𝓖 𝓡 code.env #c53-lent·c53-read (in-field 2 read-carries) (in-order params R.mir) (some-bytes (read-code and read-value and none) N.the-type numbers) #c53·read (code.unfolded 𝓤 H 𝓜 𝓡) (lent.clauses 𝓤 H (𝓖 .A) (𝓜 .mem) (𝓡 .run))
+    exported 𝓤 H 𝓜 𝓖 𝓡 code.env #c53-lent·c53-read (in-field 2 read-carries) (in-order params R.mir) (some-pieces (read-code and read-value and none) N.the-type numbers) #c53·read (code.unfolded 𝓤 H 𝓜 𝓡) (lent.clauses 𝓤 H (𝓖 .A) (𝓜 .mem) (𝓡 .run))
     (tripleOf 𝓤 H (𝓖 .A) read.signature (read.spec 𝓤 H (𝓖 .A) (𝓜 .mem) (𝓡 .run))) read-def.routine code.calls-c53·read (read-thm.met 𝓤 H 𝓜 𝓖 𝓡)
     record {
       Told = λ κs h a r ws. r ≡ readAnswer h (a .0);

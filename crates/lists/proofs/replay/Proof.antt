@@ -27,6 +27,16 @@ slice-write-answers-3 c =
     let t = c .before .before .before .before .before in
     simp length-set (fits-at _ _ _ _ (t .before .loop .inv) (t .loop-test .taken) 2 (lit< tt))
 
+slice-write-answers-4 : tie.Need-slice-write-answers-4 Inv-loop μ-loop
+slice-write-answers-4 c =
+    let t = c .before .before .before .before .before in
+    simp length-set (fits-at _ _ _ _ (t .before .loop .inv) (t .loop-test .taken) 3 (lit< tt))
+
+slice-write-answers-5 : tie.Need-slice-write-answers-5 Inv-loop μ-loop
+slice-write-answers-5 c =
+    let t = c .before .before .before .before .before in
+    simp length-set (fits-at _ _ _ _ (t .before .loop .inv) (t .loop-test .taken) 4 (lit< tt))
+
 loop-again : tie.Need-loop-again Inv-loop μ-loop
 loop-again c =
     let t = c .before .before .before .before .before .before in
@@ -65,6 +75,14 @@ replay-spec =
     (λ c. search needs)
     (λ c. search needs)
     slice-write-answers-3
+    (λ c. search needs)
+    (λ c. search needs)
+    (λ c. search needs)
+    slice-write-answers-4
+    (λ c. search needs)
+    (λ c. search needs)
+    (λ c. search needs)
+    slice-write-answers-5
     (λ c. search needs)
     (λ c. search needs)
     loop-again

@@ -8,6 +8,7 @@ use Rattle.jump.specs.Rounds.{Ready}
 use Rattle.jump.proofs.Rounds.{round-used, round-ready}
 use Rattle.looks.proofs.Looks.{Asleep, hears-wakes, on-none}
 use Rattle.looks.proofs.Rounds.{quiet-look, idle-look, look-here, look-on}
+use Rattle.totals.proofs.Sums.{none-low}
 use borrow.Author.Needs.{needs}
 use Rattle.looks.proofs.first_offer.Statement.{statement}
 use Rattle.looks.proofs.first_offer.Tie as tie
@@ -51,19 +52,19 @@ returns-3 c =
 
 one-round-requires : tie.Need-one-round-requires Inv-loop μ-loop
 one-round-requires c κs =
-    let h = c .before .before .before .before in
-    (h .before .before .loop .inv .0, omega arith, omega arith, h .ahead .ensures .1)
+    let h = c .before .before .before .before .before in
+    (h .before .before .loop .inv .0, omega arith, omega arith, h .ahead .ensures .1, none-low (c .none .ensures))
 
 add-k : tie.Need-add-k Inv-loop μ-loop
 add-k c =
     let o = c .before .before in
-    let l = o .before .before .before .before .before .before .before in
+    let l = o .before .before .before .before .before .before .before .before in
     omega (arith, l .before .before .before .pre .1, round-used _ _ _ (o .one-round .ensures) (omega arith))
 
 returns-4 : tie.Need-returns-4 Inv-loop μ-loop
 returns-4 c =
     let o = c .before .before .before .before in
-    let t = o .before .before .before .before .before .before in
+    let t = o .before .before .before .before .before .before .before in
     let i = t .before .loop .inv in
     look-here hears-wakes _ _ _ _ (t .loop-test .taken) (o .one-round .ensures) (i .0 .good) (i .2) (i .3) (sym (c .before .offers2 .ensures) ∙ c .if4 .taken)
 
@@ -75,7 +76,7 @@ loop-less c =
 loop-again : tie.Need-loop-again Inv-loop μ-loop
 loop-again c =
     let o = c .before .before .before .before in
-    let t = o .before .before .before .before .before .before in
+    let t = o .before .before .before .before .before .before .before in
     let i = t .before .loop .inv in
     let none = sym (c .before .offers2 .ensures) ∙ c .if4 .left in (
       round-ready _ _ _ (o .one-round .ensures) (omega arith) (i .0),
@@ -91,4 +92,4 @@ pub first-offer-spec : {M : Type 1} → statement M
 first-offer-spec =
     tie.close
     (tie.spec Inv-loop μ-loop (search needs) returns loop-holds (search needs) idles-requires returns-2 sub-left returns-3
-    one-round-requires add-k (search needs) returns-4 loop-less loop-again returns-5)
+    (search needs) one-round-requires add-k (search needs) returns-4 loop-less loop-again returns-5)

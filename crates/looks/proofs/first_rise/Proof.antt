@@ -8,6 +8,7 @@ use Rattle.jump.specs.Rounds.{Ready}
 use Rattle.jump.proofs.Rounds.{round-used, round-ready}
 use Rattle.looks.proofs.Looks.{hears-rises, on-none}
 use Rattle.looks.proofs.Rounds.{quiet-look, idle-look, look-here, look-on}
+use Rattle.totals.proofs.Sums.{none-low}
 use borrow.Author.Needs.{needs}
 use Rattle.looks.proofs.first_rise.Statement.{statement}
 use Rattle.looks.proofs.first_rise.Tie as tie
@@ -41,8 +42,8 @@ returns-2 c =
 
 one-round-requires : tie.Need-one-round-requires Inv-loop μ-loop
 one-round-requires c κs =
-    let h = c .before .before .before .before in
-    (h .before .before .loop .inv .0, omega arith, omega arith, h .ahead .ensures .1)
+    let h = c .before .before .before .before .before in
+    (h .before .before .loop .inv .0, omega arith, omega arith, h .ahead .ensures .1, none-low (c .none .ensures))
 
 add-done : tie.Need-add-done Inv-loop μ-loop
 add-done c = omega (arith, round-used _ _ _ (c .before .before .one-round .ensures) (omega arith))
@@ -50,7 +51,7 @@ add-done c = omega (arith, round-used _ _ _ (c .before .before .one-round .ensur
 returns-3 : tie.Need-returns-3 Inv-loop μ-loop
 unfolding flags
 returns-3 c = let o = c .before .before .before .before in
-    let t = o .before .before .before .before .before .before in
+    let t = o .before .before .before .before .before .before .before in
     let l = t .before in
     look-here hears-rises _ _ _ _ (t .loop-test .taken) (o .one-round .ensures) (l .loop .inv .0 .good) tt (l .loop .inv .2) (sym (c .before .any-rises .ensures) ∙ c .if3 .taken)
 
@@ -61,7 +62,7 @@ loop-less c = let o = c .before .before .before .before in
 loop-again : tie.Need-loop-again Inv-loop μ-loop
 unfolding flags
 loop-again c = let o = c .before .before .before .before in
-    let t = o .before .before .before .before .before .before in
+    let t = o .before .before .before .before .before .before .before in
     let l = t .before in (
       round-ready _ _ _ (o .one-round .ensures) (omega arith) (l .loop .inv .0),
       omega (arith, round-used _ _ _ (o .one-round .ensures) (omega arith)),
@@ -74,5 +75,5 @@ returns-4 c = on-none rises _ _ _ _ (c .before .loop .inv .2) (c .loop-test .lef
 pub first-rise-spec : {M : Type 1} → statement M
 first-rise-spec =
     tie.close
-    (tie.spec Inv-loop μ-loop loop-holds (search needs) idles-requires returns sub-left returns-2 one-round-requires
+    (tie.spec Inv-loop μ-loop loop-holds (search needs) idles-requires returns sub-left returns-2 (search needs) one-round-requires
     add-done (search needs) returns-3 loop-less loop-again returns-4)

@@ -150,9 +150,10 @@ fn main() {
         exit(1);
     }
     let Outcomes { found, none, refused } = soak.speeds;
+    let [timer0, timer1, timer2] = [0, 1, 2].map(|timer| soak.on_records.overflowed[timer] + soak.lists.overflowed[timer]);
     println!(
-        "{} raw records in {} calls, {} cycles of lists in {} calls, {} speeds ({found} found, {none} none, {refused} refused), {} s: \
-         no difference",
+        "{} raw records in {} calls, {} cycles of lists in {} calls, runs with overflows of Timers 0, 1, 2: {timer0}, {timer1}, \
+         {timer2}; {} speeds ({found} found, {none} none, {refused} refused), {} s: no difference",
         soak.records,
         soak.on_records.calls,
         soak.lists.cycles,
