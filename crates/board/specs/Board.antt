@@ -1,6 +1,6 @@
--- Document 02, request Three, the board that has both chips: the 82C53 is clocked once a machine cycle. A jump ends as pulse by pulse does.
--- Request Seven: it answers the chip's overflow totals. Refused by 1 for either record, then by 4 for the pin byte or the gate byte, then by 5; a refusal leaves both chips as given. Power-down
--- stops the chip, whose cycle then leaves it as it is, and not the 82C53.
+-- Document 02, request Three, the board that has both chips: the 82C53 is clocked once a machine cycle. A jump ends as pulse by pulse does;
+-- request Seven: it answers the chip's overflow totals. Refused by 1 for either record, then by 4 for the pin byte or the gate byte, then
+-- by 5; a refusal leaves both chips as given. Power-down stops the chip, whose cycle then leaves it as it is, and not the 82C53.
 use Prim.Native.Nat.{ℕ, zero, suc}
 use mathlib.Core.Bool.{Bool, _&&_}
 use lib.Dec.{leb}

@@ -1,5 +1,6 @@
 -- Cuts: the same cycles made by other calls. A cycle, a jump and a trace run make cycles and nothing else; the device after them depends
--- on the pin bytes of those cycles alone, however they are cut into calls, and so do the overflow totals of jumps and trace runs, added up.
+-- on the pin bytes of those cycles alone, however they are cut into calls, and so do the overflow totals of jumps and trace runs, added
+-- up.
 use Prim.Native.Nat.{ℕ, zero, suc}
 use mathlib.Core.Path.{_≡_}
 use mathlib.Core.List.{List, [], _∷_, _++_}
