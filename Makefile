@@ -20,8 +20,8 @@ speed: lib
 
 # The C library: dist/libc51.a, of the exports of these crates, and dist/c51.h. Each archive is compiled by itself, and a large function
 # is made part of its caller only where the archive has one call of it: so each call of a device or a board has an archive.
-ARCHIVES = c51_read c51_write c51_offer c51_take c51_return c51_cycle c51_jump c51_trace c51_look c51_wake \
-	c51_board_cycle c51_board_jump c51_lent c53_lent
+ARCHIVES = c51_read c51_write c51_save c51_load c51_offer c51_take c51_return c51_cycle c51_jump c51_trace c51_look \
+	c51_wake c51_board_cycle c51_board_jump c51_lent c53_lent
 lib:
 	@mkdir -p dist
 	@echo 'proving and building the library, some minutes the first time; log in dist/build.log'

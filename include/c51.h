@@ -1,17 +1,17 @@
 /*
- * The proved peripherals of the 80C51 and 80C52: timers, serial port and interrupt controller; the 82C53 interval timer beside the
- * chip; and a finder that gives SMOD and TH1 for a wanted speed.
+ * The proved peripherals of the 80C51 and 80C52: timers, serial port and interrupt controller; checkpoints, by which a live device
+ * moves to another computer; the 82C53 interval timer beside the chip; and a finder that gives SMOD and TH1 for a wanted speed.
  *
  * A device is one record, c51_device, which the caller owns: the library keeps nothing between calls, so that any number of
  * devices run side by side and in any number of threads. So is an 82C53, c53_interval, and a board that has both, c51_board. Every
  * call is answered for every content of the record and of its other arguments; only a pointer has to point where its comment says. Of
  * other libraries it calls memcpy alone.
  *
- * A call answers a code: 0, or the number of the refusal. The lowest number applies, with three exceptions: 10 goes after 1 and
- * before 3, 6 and 7; 12 goes before 11; and in a trace 5 goes first after 1, then the first bad entry, 4 before 8 within it. A
- * refused call leaves the record as it was, and every other number of its answer is 0. Each call but c51_reset, c51_accepts,
- * c53_reset, c53_accepts, c53_outputs, and c51_speed, which takes none, first judges the record, so that each of them may answer
- * C51_BAD_RECORD.
+ * A call answers a code: 0, or the number of the refusal. The lowest number applies, with four exceptions: 10 goes after 1 and
+ * before 3, 6 and 7; 12 goes before 11; in a trace 5 goes first after 1, then the first bad entry, 4 before 8 within it; and of
+ * 15, 16 and 17 the first fault from the front of a checkpoint decides. A refused call leaves the record as it was, and every other
+ * number of its answer is 0. Each call but c51_reset, c51_accepts, c53_reset, c53_accepts, c53_outputs, and c51_load and c51_speed,
+ * which take none, first judges the record, so that each of them may answer C51_BAD_RECORD.
  */
 #ifndef C51_H
 #define C51_H
@@ -39,7 +39,11 @@ enum {
     C51_BAD_MODE = 11,          /* a control word of the 82C53 with another mode than 0 and 2 */
     C51_BAD_CHOICE = 12,        /* a control word with counter choice 3, an address of the 82C53 above 3, or a read at 3 */
     C51_BAD_COUNT = 13,         /* a BCD digit above nine or a mode 2 count of 1, tested when the count is complete */
-    C51_BAD_SPEED = 14          /* a crystal, rate or tolerance outside its limits */
+    C51_BAD_SPEED = 14,         /* a crystal, rate or tolerance outside its limits */
+    C51_BAD_LENGTH = 15,        /* a checkpoint cut short or with bytes left over; a buffer of another length than the checkpoint has */
+    C51_BAD_LAYOUT = 16,        /* a checkpoint with another count or another address */
+    C51_BAD_VALUE = 17          /* a checkpoint with a value that C51_BAD_RECORD is for, an ever byte above 1, or a received byte that
+                                 * is not the entry of SBUF */
 };
 
 #define C51_MAX_CYCLES ((uint64_t)1 << 40) /* of one jump, look ahead or wake look; pulses likewise */
@@ -47,6 +51,8 @@ enum {
 #define C51_MAX_CRYSTAL 40000000u          /* Hz; from 1 */
 #define C51_MAX_RATE 1000000u              /* wanted bits a second; from 1 */
 #define C51_MAX_TOLERANCE 10000u           /* hundredths of a percent of the wanted rate; from 0 */
+#define C51_CHECKPOINT_51 297              /* bytes of a checkpoint of kind 51 */
+#define C51_CHECKPOINT_52 307              /* and of kind 52 */
 
 /* The pin byte of a cycle: a bit for each pin, bit 7 is 0. Kind 51 takes T2 and T2EX as 1. */
 enum {
@@ -194,7 +200,7 @@ typedef char c51_device_layout[sizeof(c51_device) == 128 && offsetof(c51_device,
 
 /* ---------------------------------------------------------------- the answers */
 
-/* A reset: the device after it, a record all zero where it is refused. */
+/* A reset: the device after it, a record all zero where it is refused. A load: the device of the checkpoint, or the same. */
 typedef struct {
     uint8_t code;
     c51_device device;
@@ -294,6 +300,20 @@ c51_look_answer c51_wake(c51_device device, uint8_t pins, uint64_t n);
 
 /* 1 where the record is accepted, 0 where every call but reset refuses it by 1. */
 uint8_t c51_accepts(c51_device device);
+
+/* ---------------------------------------------------------------- a checkpoint: a device as bytes, to go on from on another computer
+ * docs/CHECKPOINT.md has the format byte by byte. It holds all of the record and nothing beside it: not the 82C53, nor the pins of
+ * the next cycle. A load and c51_replay make a list of calls that starts from a checkpoint. */
+
+/* Writes the checkpoint of a device into a buffer of just its length, C51_CHECKPOINT_51 or C51_CHECKPOINT_52. buffer points to length
+ * bytes and is never NULL, even where length is 0. Refusals: 1, then 15 for another length; the buffer stays as it was. */
+uint8_t c51_save(c51_device device, uint8_t *buffer, size_t length);
+
+/* The device of a checkpoint, which is read from the front, each thing judged as soon as it is whole; the first fault decides. A file
+ * that passes is the one that c51_save writes of its device, and every call accepts that device. file points to length bytes and is
+ * never NULL, even where length is 0. Refusals: 15 where the file ends before what is due, 16, 17, and 15 for bytes left over, last;
+ * the device is then a record all zero, which every other call refuses by 1. */
+c51_answer c51_load(const uint8_t *file, size_t length);
 
 /* ---------------------------------------------------------------- a whole list of calls at once */
 

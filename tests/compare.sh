@@ -9,6 +9,9 @@ least_board_calls=50000
 least_speed_calls=22000
 least_risen_dumps=95000
 least_overflow_runs=37000
+least_saves=4000
+least_loads=2800
+least_refused_loads=350
 stage=$(cat tests/stage) || exit 1
 for number in "$@"; do
     case $number in
@@ -33,6 +36,11 @@ board_calls=0
 speed_calls=0
 risen_dumps=0
 overflow_runs=0
+saves=0
+loads=0
+by_15=0
+by_16=0
+by_17=0
 shortened=0
 compared=0
 
@@ -52,7 +60,8 @@ damage() {
 # same NAME SCRIPT: the script within reach gets the same answers from both. The calls are its lines but faults, dumps
 # and set records; those of the 82C53 and of the board begin with V, those that ask for a speed with B. Dumps are counted
 # where a flag rose: from the 42nd number on every second one is its ever. Runs are counted where a timer overflowed: the
-# third to fifth number of an answer to J, T or VX are its totals.
+# third to fifth number of an answer to J, T or VX are its totals. Saves and loads, P and Q, are counted where they pass, and
+# loads by what refuses them.
 same() {
     if ! "$reach" <"$2" >"$work/script"; then
         fault "$1" 'reach fails'
@@ -63,15 +72,22 @@ same() {
     elif answered "$1" "$work/script" "$work/model"; then
         compared=$((compared + lines))
         shortened=$((shortened + $(diff "$2" "$work/script" | grep -c '^<')))
-        awk 'NR == FNR { fault[FNR] = /^\?/; for (i = 42; i < NF; i += 2) rose[FNR] += $i == 1; lapped[FNR] = $3 + $4 + $5; next }
-            !fault[FNR] && !/^[DS]/ { n++; v += /^V/; b += /^B/ } /^D/ && rose[FNR] { d++ } /^(J|T|VX) / && lapped[FNR] { o++ }
-            END { print n + 0, v + 0, b + 0, d + 0, o + 0 }' "$work/model" "$work/script" >"$work/counted"
-        read -r n v b d o <"$work/counted"
+        awk 'NR == FNR { code[FNR] = $1; for (i = 42; i < NF; i += 2) rose[FNR] += $i == 1; lapped[FNR] = $3 + $4 + $5; next }
+            code[FNR] != "?" && !/^[DS]/ { n++; v += /^V/; b += /^B/ } /^D/ && rose[FNR] { d++ } /^(J|T|VX) / && lapped[FNR] { o++ }
+            /^P/ && code[FNR] == "0" { p++ } /^Q/ { q[code[FNR]]++ }
+            END { print n + 0, v + 0, b + 0, d + 0, o + 0, p + 0, q["0"] + 0, q["15"] + 0, q["16"] + 0, q["17"] + 0 }' \
+            "$work/model" "$work/script" >"$work/counted"
+        read -r n v b d o p q q15 q16 q17 <"$work/counted"
         calls=$((calls + n))
         board_calls=$((board_calls + v))
         speed_calls=$((speed_calls + b))
         risen_dumps=$((risen_dumps + d))
         overflow_runs=$((overflow_runs + o))
+        saves=$((saves + p))
+        loads=$((loads + q))
+        by_15=$((by_15 + q15))
+        by_16=$((by_16 + q16))
+        by_17=$((by_17 + q17))
         return
     fi
     cp "$work/script" "target/differs.$bad.txt"
@@ -97,10 +113,16 @@ done
 
 printf '%s calls compared, %s of them of the 82C53 or the board, %s for a speed, %s runs in which a timer overflowed, ' \
     "$calls" "$board_calls" "$speed_calls" "$overflow_runs"
+printf '%s saves, %s loads and %s, %s and %s refused by 15, 16 and 17, ' "$saves" "$loads" "$by_15" "$by_16" "$by_17"
 printf '%s shortened, and %s dumps in which a flag rose, in %s lines, seeds from %s\n' "$shortened" "$risen_dumps" "$compared" "$first"
 [ $# -gt 0 ] || [ "$calls" -ge "$least_calls" ] || fault compare "fewer than $least_calls calls"
 [ $# -gt 0 ] || [ "$board_calls" -ge "$least_board_calls" ] || fault compare "fewer than $least_board_calls calls of the board"
 [ $# -gt 0 ] || [ "$speed_calls" -ge "$least_speed_calls" ] || fault compare "fewer than $least_speed_calls calls for a speed"
 [ $# -gt 0 ] || [ "$risen_dumps" -ge "$least_risen_dumps" ] || fault compare "fewer than $least_risen_dumps dumps in which a flag rose"
 [ $# -gt 0 ] || [ "$overflow_runs" -ge "$least_overflow_runs" ] || fault compare "fewer than $least_overflow_runs runs in which a timer overflowed"
+[ $# -gt 0 ] || [ "$saves" -ge "$least_saves" ] || fault compare "fewer than $least_saves saves"
+[ $# -gt 0 ] || [ "$loads" -ge "$least_loads" ] || fault compare "fewer than $least_loads loads"
+for refused in "$by_15" "$by_16" "$by_17"; do
+    [ $# -gt 0 ] || [ "$refused" -ge "$least_refused_loads" ] || fault compare "fewer than $least_refused_loads loads refused by 15, 16 or 17"
+done
 verdict

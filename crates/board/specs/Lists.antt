@@ -1,7 +1,6 @@
 -- Document 02, request Three: a list of calls on the board, of either chip or of both, the answers to it and both chips at its end.
 use Prim.Native.Nat.{ℕ}
 use mathlib.Core.List.{List, [], _∷_, _++_}
-use Rattle.machine.specs.Calls.{resetAnswer}
 use Rattle.machine.specs.Lists.{Reply, says, listed}
 use Rattle.machine.specs.Lists.Value.{numbers}
 use Rattle.machine.specs.Lists as Chip
@@ -47,6 +46,7 @@ play (Call.jump pins gates n) b = played (replyOfJump (jumpAnswer b pins gates n
 abbrev pub run : List Call → Board → Ran Board
 run cs b = runBy play cs b
 
--- the plain board: it starts with what reset gives both chips, and its only inputs are the kind and the list
-unfoldable pub machine : ℕ → List Call → Ran Board
-machine kind cs = run cs (board (resetAnswer kind .device) resetOf)
+-- the plain board: it starts with what reset gives both chips, or of the chip with the values of a file, and its only inputs are where
+-- the chip starts and the list
+unfoldable pub machine : Chip.Start → List Call → Ran Board
+machine start cs = run cs (board (Chip.started start .device) resetOf)

@@ -15,7 +15,7 @@ use Rattle.board.specs.declared.Board.{Board}
 use Rattle.board.specs.declared.BoardCycleAnswer.{BoardCycleAnswer}
 use Rattle.board.specs.declared.BoardJumpAnswer.{BoardJumpAnswer}
 use Rattle.board.specs.Lists.{Call, board, replyOfCycle, replyOfJump, play, run, machine}
-use Rattle.lists.proofs.Demand3.{demand3, kept-played, kept-of}
+use Rattle.lists.proofs.Demand3.{start-is, demand3, kept-played, kept-of}
 use Rattle.board_lists.specs.Boards.{KeptTimer, Kept, Chained, AsksNothing, Boards}
 
 -- a call that keeps its contract is played as the plain board plays it
@@ -95,7 +95,7 @@ unfolding machine
 boards =
     record {
       from-any = chained;
-      from-reset = λ kind {a} {i} {cs} e f c. chained c ∙ ap₂ (λ (b : Answer) (j : Interval). run cs (board (b .device) j)) e f;
+      from-start = λ start {a} {i} {cs} s f c. chained c ∙ ap₂ (λ (b : Answer) (j : Interval). run cs (board (b .device) j)) (start-is s) f;
       every-list = every-list;
       asks-nothing = asks-nothing;
       chip-alone = chip-alone;

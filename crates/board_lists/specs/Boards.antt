@@ -19,7 +19,6 @@ use Rattle.board.specs.declared.BoardCycleAnswer.{BoardCycleAnswer}
 use Rattle.board.specs.declared.BoardJumpAnswer.{BoardJumpAnswer}
 use Rattle.board.specs.Lists.{Call, board, replyOfCycle, replyOfJump, run, machine}
 use Rattle.lists.specs.Demand3 as OfChip
-use Rattle.c51_access.proofs.reset.Reads as chip-reset-reads
 use Rattle.c53.proofs.reset.Reads as reset-reads
 use Rattle.c53.proofs.write.Reads as write-reads
 use Rattle.c53.proofs.read.Reads as read-reads
@@ -82,10 +81,11 @@ pub record AsksNothing : Type 0 where
 pub record Boards : Type 0 where
   -- any list of calls from any board: every reply, and both chips at the end, are the plain board's
   pub from-any : {cs : List Call} {b : Board} {rs : List Reply} {last : Board} → Chained cs b rs last → ran rs last ≡ run cs b
-  -- the same from what reset gives both chips: the plain board's only inputs are the kind, 51 or 52, and the list
-  pub from-reset : (kind : ℕ) {a : Answer} {i : Interval} {cs : List Call} {rs : List Reply} {last : Board}
-      → chip-reset-reads.Learnt tt (kind, tt) a (kind, tt) → reset-reads.Learnt tt tt i tt
-      → Chained cs (board (a .device) i) rs last → ran rs last ≡ machine kind cs
+  -- the same from what reset gives both chips, or of the chip from the device of a file: the plain board's only inputs are the kind, 51
+  -- or 52, or the file's bytes, and the list
+  pub from-start : (start : Chip.Start) {a : Answer} {i : Interval} {cs : List Call} {rs : List Reply} {last : Board}
+      → OfChip.Started start a → reset-reads.Learnt tt tt i tt
+      → Chained cs (board (a .device) i) rs last → ran rs last ≡ machine start cs
   -- every list makes such a chain, refused calls included
   pub every-list : (cs : List Call) (b : Board) → Chained cs b (run cs b .replies) (run cs b .state)
   pub asks-nothing : AsksNothing

@@ -22,7 +22,7 @@ use Rattle.machine.specs.Flags.{flags, rose, risen}
 use Rattle.machine.specs.Times.{noted, timesAfter, never}
 use Rattle.machine.specs.Cycle.{steps, cycleOf, cycles}
 use Rattle.machine.specs.Calls.{refuseRun, passedRun, refuseCycle, passedCycle, resetAnswer, stored, writeAnswer, cycleAnswer, cyclesFault, jumpAnswer, entryPins, entryCycles, traceFault, traceCycles, traceAnswer, takeOf, takeAnswer, returnAnswer}
-use Rattle.machine.specs.Lists.{Call, play, run, machine}
+use Rattle.machine.specs.Lists.{Call, play, run, started, machine}
 use Rattle.machine.proofs.Choices.{chosen, by-test}
 use Rattle.laws.specs.LastRise.{Made, madeHeld, madeTrace, madeBy, made, everIn, numberIn, LastRises}
 use Rattle.laws.proofs.Tests.{at}
@@ -202,7 +202,7 @@ run-all [] d ms r = r
 run-all (c ∷ cs) d ms r = run-all cs (play c d .device) (madeBy c d ms) (call-recalls c d ms r)
 
 pub last-rises : LastRises
-unfolding machine run
+unfolding machine started run
 last-rises =
     let all : (kind : ℕ) (cs : List Call) → Recalls (run cs (resetAnswer kind .device) .device .times) (made cs (resetAnswer kind .device) []) =
     λ kind cs. run-all cs (resetAnswer kind .device) [] (reset-recalls kind) in

@@ -6,3 +6,4 @@ pub mod Flags
 pub mod Sleep
 pub mod Arrays
 pub mod LastRise
+pub mod Rows

@@ -12,6 +12,7 @@ use Rattle.machine.specs.Flags.{flags, rose}
 use Rattle.machine.specs.Cycle.{cycleOf, cycles}
 use Rattle.machine.specs.Calls.{entryPins, entryCycles}
 use Rattle.machine.specs.Lists.{Call, play, machine}
+use Rattle.machine.specs.Lists.Start.{fromReset}
 
 -- a cycle: the device before it and after it
 pub record Made : Type 0 where
@@ -71,6 +72,6 @@ numberIn place (m ∷ ms) = cond (risesIn place m) (m .after .cycle) (numberIn p
 -- after every list of calls from reset
 pub record LastRises : Type 0 where
   pub ever : (kind : ℕ) (cs : List Call) (place : ℕ) → place < 8
-      → getD (machine kind cs .device .times .ever) place 0 ≡ everIn place (made cs (machine kind [] .device) [])
+      → getD (machine (fromReset kind) cs .device .times .ever) place 0 ≡ everIn place (made cs (machine (fromReset kind) [] .device) [])
   pub number : (kind : ℕ) (cs : List Call) (place : ℕ) → place < 8
-      → getD (machine kind cs .device .times .number) place 0 ≡ numberIn place (made cs (machine kind [] .device) [])
+      → getD (machine (fromReset kind) cs .device .times .number) place 0 ≡ numberIn place (made cs (machine (fromReset kind) [] .device) [])

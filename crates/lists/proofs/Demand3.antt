@@ -12,9 +12,8 @@ use Rattle.machine.specs.declared.TakeAnswer.{TakeAnswer}
 use Rattle.machine.specs.declared.ReadAnswer.{ReadAnswer}
 use Rattle.machine.specs.declared.OfferAnswer.{OfferAnswer}
 use Rattle.machine.specs.declared.LookAnswer.{LookAnswer}
-use Rattle.machine.specs.Calls.{resetAnswer}
-use Rattle.machine.specs.Lists.{Call, Value, Reply, Played, Ran, ran, play, run, machine, played, replyOf, replyOfRun, replyOfCycle, replyOfTake, replyOfRead, replyOfOffer, replyOfLook}
-use Rattle.lists.specs.Demand3.{Kept, Chained, AsksNothing, risesIn, offeredAfter, Tells, ToldInLists, Demand3}
+use Rattle.machine.specs.Lists.{Call, Value, Reply, Played, Ran, ran, play, run, Start, started, machine, played, replyOf, replyOfRun, replyOfCycle, replyOfTake, replyOfRead, replyOfOffer, replyOfLook}
+use Rattle.lists.specs.Demand3.{Kept, Chained, Started, AsksNothing, risesIn, offeredAfter, Tells, ToldInLists, Demand3}
 use Rattle.lists.specs.Demand3.Chained.{nothing, then}
 use Rattle.lists.proofs.Looks.{look-means, look-tells, wake-means, wake-tells}
 use Rattle.lists.proofs.Spells.{spelled}
@@ -68,6 +67,8 @@ asks-nothing =
       resets = λ kind. tt;
       reads = λ d a. tt;
       writes = λ d a v. tt;
+      saves = λ κ d buffer. tt;
+      loads = λ κ file. tt;
       cycles = λ d pins. tt;
       jumps = λ d pins n. tt;
       traces = λ κ d es. tt;
@@ -77,6 +78,12 @@ asks-nothing =
       returns = λ d. tt;
       wakes = λ d pins n. tt;
     }
+
+-- a start that keeps its contract is the machine's
+pub start-is : {start : Start} {a : Answer} → Started start a → a ≡ started start
+unfolding started
+start-is (Started.reset e) = e
+start-is (Started.load κ file e) = e
 
 -- a list in two parts: the second from the state that the first leaves
 run-append : (xs ys : List Call) (d : Device) → run (xs ++ ys) d .replies ≡ run xs d .replies ++ run ys (run xs d .device) .replies
@@ -105,9 +112,9 @@ reply-there before after c d last earlier later r e l =
 told-in-lists : (call : Call) (Told : Device → Value → Type 0)
     → ((d : Device) (r : Reply) → r ≡ play call d .reply → r .code ≡ 0 → Told d (r .value)) → ToldInLists call Told
 unfolding machine
-told-in-lists call Told tells kind a before after earlier later r last e c l p =
-    let whole = chained c ∙ ap (λ (b : Answer). run (before ++ (call ∷ after)) (b .device)) e in
-    tells (machine kind before .device) r (reply-there before after call (resetAnswer kind .device) last earlier later r whole l) p
+told-in-lists call Told tells start a before after earlier later r last s c l p =
+    let whole = chained c ∙ ap (λ (b : Answer). run (before ++ (call ∷ after)) (b .device)) (start-is s) in
+    tells (machine start before .device) r (reply-there before after call (started start .device) last earlier later r whole l) p
 
 looks-in-lists : (pins n : ℕ) → ToldInLists (Call.look pins n) (λ d. Tells 1 n (risesIn pins d))
 unfolding play
@@ -122,7 +129,7 @@ unfolding machine
 demand3 =
     record {
       from-any = chained;
-      from-reset = λ kind {a} {cs} e c. chained c ∙ ap (λ (b : Answer). run cs (b .device)) e;
+      from-start = λ start {a} {cs} s c. chained c ∙ ap (λ (b : Answer). run cs (b .device)) (start-is s);
       every-list = every-list;
       asks-nothing = asks-nothing;
       looks = λ d pins n answer e p. look-means pins n d answer (e .0) p;

@@ -1,4 +1,3 @@
-pub mod Rows
 pub mod Replays
 pub mod Spells
 pub mod Looks

@@ -17,15 +17,17 @@ use Rattle.machine.specs.declared.OfferAnswer.the-variants as Offer
 use Rattle.machine.specs.declared.LookAnswer.{LookAnswer}
 use Rattle.machine.specs.declared.LookAnswer.the-variants as Look
 use Rattle.machine.specs.Calls.{readAnswer, lookAnswer, wakeAnswer, offerAnswer}
-use Rattle.machine.specs.Lists.{Call, Reply, Value, Ran, says, play, run, machine, replyOfRead, replyOfOffer, replyOfLook}
+use Rattle.machine.specs.Lists.{Call, Reply, Value, Ran, says, play, run, Start, machine, replyOfRead, replyOfOffer, replyOfLook}
 use Rattle.machine.specs.Lists.Value.{numbers, none}
+use Rattle.machine.specs.Lists.Start.{fromReset, fromFile}
 use Rattle.calls.specs.Row.{mostNumbers, answerWords, noneMark, padded, rowOf}
-use Rattle.lists.specs.Script.{Script, script, rowsOf, written, firstReply, repliesIn, Answered, Replayed}
+use Rattle.lists.specs.Script.{Script, script, rowsOf, written, firstReply, repliesIn, Answered, Replayed, ReplayedFrom}
 use Rattle.lists.specs.Spelling.{Each, Room, Spells}
 use Rattle.lists.specs.Demand3.{Same}
 use Rattle.lists.proofs.Replays.{row-long}
 use Rattle.lists.proofs.replay.Reads as replay-reads
 use Rattle.lists.proofs.replay_from_reset.Reads as from-reset-reads
+use Rattle.lists.proofs.replay_from_file.Reads as from-file-reads
 
 -- as many replies as calls
 pub run-long : (cs : List Call) (d : Device) → length (run cs d .replies) ≡ length cs
@@ -140,15 +142,29 @@ module _ (calls lent before after : RefT (List ℕ)) where
       → Same (run cs d) (length cs) last (now before) (now after)
   replays κs d last cs = replayed cs given d last (now before) (now after)
 
+  -- from where the plain machine starts
+  from-start : (start : Start) (last : Device) (cs : List Call) → Spells given cs → Room (length cs) (now before)
+      → ReplayedFrom start given (now before) last (now after) → Same (machine start cs) (length cs) last (now before) (now after)
+  unfolding machine
+  from-start start last cs s r e =
+      same (machine start cs) (length cs) last (now before) (now after) (run-long cs _) (all-few cs _) (rw (s .spelled (now before) r) at e)
+
   -- from what reset gives a kind
   pub replays-from-reset : (κs : Lfts 3) (kind : ℕ) (last : Device) (cs : List Call) → Spells given cs → Room (length cs) (now before)
       → from-reset-reads.Learnt κs (kind, (calls, (lent, (before, tt)))) last (kind, (calls, (lent, (after, tt))))
-      → Same (machine kind cs) (length cs) last (now before) (now after)
-  unfolding machine
-  replays-from-reset κs kind last cs s r e =
-      same (machine kind cs) (length cs) last (now before) (now after) (run-long cs _) (all-few cs _) (rw (s .spelled (now before) r) at e)
+      → Same (machine (fromReset kind) cs) (length cs) last (now before) (now after)
+  replays-from-reset κs kind = from-start (fromReset kind)
 
-  -- neither asks anything of its caller
+  -- from the device of a file
+  pub replays-from-file : (κs : Lfts 4) (file : RefT (List ℕ)) (last : Device) (cs : List Call) → Spells given cs → Room (length cs) (now before)
+      → from-file-reads.Learnt κs (file, (calls, (lent, (before, tt)))) last (file, (calls, (lent, (after, tt))))
+      → Same (machine (fromFile (now file)) cs) (length cs) last (now before) (now after)
+  replays-from-file κs file = from-start (fromFile (now file))
+
+  -- none of them asks anything of its caller
   pub replay-asks-nothing : (κs : Lfts 3) (d : Device) (kind : ℕ)
       → replay-reads.Asked κs (d, (calls, (lent, (before, tt)))) × from-reset-reads.Asked κs (kind, (calls, (lent, (before, tt))))
   replay-asks-nothing κs d kind = (tt, tt)
+
+  pub replay-from-file-asks-nothing : (κs : Lfts 4) (file : RefT (List ℕ)) → from-file-reads.Asked κs (file, (calls, (lent, (before, tt))))
+  replay-from-file-asks-nothing κs file = tt

@@ -12,7 +12,8 @@ use Rattle.machine.specs.Lists.{Call, Reply, Ran, play, run}
 use Rattle.calls.specs.declared.Shown.{Shown}
 use Rattle.calls.specs.Row.{callOf, mostNumbers, answerWords, countOf, numbersOf, padded, rowOf, shown}
 use Rattle.lists.specs.Script.{Script, callWords, firstCall, callsIn, callsOf, rowsOf, written, rows, Answered}
-use Rattle.lists.proofs.Rows.{put, put-length, put-take, put-drop}
+use Rattle.laws.specs.Rows.{put}
+use Rattle.laws.proofs.Rows.{put-length, put-take, put-drop}
 
 -- the calls from row i on, of n in all
 abbrev pub rest : Script → ℕ → ℕ → List Call

@@ -18,13 +18,15 @@ use Rattle.machine.specs.declared.LookAnswer.{LookAnswer}
 use Rattle.machine.specs.declared.LookAnswer.the-variants as Look
 use Rattle.machine.specs.Cycle.{cycles}
 use Rattle.machine.specs.Calls.{rises, offersTo}
-use Rattle.machine.specs.Lists.{Call, Value, Reply, Played, Ran, ran, run, machine, played, number, replyOf, replyOfRun, replyOfCycle, replyOfTake, replyOfRead, replyOfOffer, replyOfLook}
+use Rattle.machine.specs.Lists.{Call, Value, Reply, Played, Ran, ran, run, Start, machine, played, number, replyOf, replyOfRun, replyOfCycle, replyOfTake, replyOfRead, replyOfOffer, replyOfLook}
 use Rattle.calls.specs.Row.{answerWords}
 use Rattle.lists.specs.Script.{Script, callWords, repliesIn, Replayed}
 use Rattle.lists.specs.Spelling.{Each, Fits, Addressable, lentOf, scriptOf, Room, Spells}
 use Rattle.c51_access.proofs.reset.Reads as reset-reads
 use Rattle.c51_access.proofs.read.Reads as read-reads
 use Rattle.c51_access.proofs.write.Reads as write-reads
+use Rattle.c51_checkpoint.proofs.save.Reads as save-reads
+use Rattle.c51_checkpoint.proofs.load.Reads as load-reads
 use Rattle.c51_run.proofs.cycle.Reads as cycle-reads
 use Rattle.c51_run.proofs.jump.Reads as jump-reads
 use Rattle.c51_run.proofs.trace.Reads as trace-reads
@@ -77,11 +79,19 @@ pub data Chained : List Call → Device → List Reply → Device → Type 0 whe
   then : {c : Call} {cs : List Call} {d : Device} {p : Played} {rs : List Reply} {last : Device}
       → Kept c d p → Chained cs (p .device) rs last → Chained (c ∷ cs) d (p .reply ∷ rs) last
 
+-- Where a list starts: the answer of a reset, or of a load of any file, as the contract promises it
+pub data Started : Start → Answer → Type 0 where
+  reset : {kind : ℕ} {a : Answer} → reset-reads.Learnt tt (kind, tt) a (kind, tt) → Started (Start.fromReset kind) a
+  load : (κ : Lft) (file : RefT (List ℕ)) {a : Answer}
+      → load-reads.Learnt (κ, tt) (file, tt) a (file, tt) → Started (Start.fromFile (now file)) a
+
 -- No public call asks anything of its caller
 pub record AsksNothing : Type 0 where
   pub resets : (kind : ℕ) → reset-reads.Asked tt (kind, tt)
   pub reads : (d : Device) (a : ℕ) → read-reads.Asked tt (d, (a, tt))
   pub writes : (d : Device) (a v : ℕ) → write-reads.Asked tt (d, (a, (v, tt)))
+  pub saves : (κ : Lft) (d : Device) (buffer : RefT (List ℕ)) → save-reads.Asked (κ, tt) (d, (buffer, tt))
+  pub loads : (κ : Lft) (file : RefT (List ℕ)) → load-reads.Asked (κ, tt) (file, tt)
   pub cycles : (d : Device) (pins : ℕ) → cycle-reads.Asked tt (d, (pins, tt))
   pub jumps : (d : Device) (pins n : ℕ) → jump-reads.Asked tt (d, (pins, (n, tt)))
   pub traces : (κ : Lft) (d : Device) (es : RefT (List ℕ)) → trace-reads.Asked (κ, tt) (d, (es, tt))
@@ -124,15 +134,15 @@ pub record Tells (start n : ℕ) (so : ℕ → Bool) (said : Value) : Type 0 whe
   pub none-said : said ≡ Value.none → Never start n so
   pub none-is : Never start n so → said ≡ Value.none
 
--- A call at any place of any list from what reset gives the kind, 51 or 52: what its reply tells, if it passes, of the state which the
--- machine has there
+-- A call at any place of any list from any start, reset of kind 51 or 52 or an accepted file: what its reply tells, if it passes, of the
+-- state which the machine has there
 abbrev pub ToldInLists : Call → (Device → Value → Type 0) → Type 0
 ToldInLists call Told =
-    (kind : ℕ) (a : Answer) (before after : List Call) (earlier later : List Reply) (r : Reply) (last : Device)
-    → reset-reads.Learnt tt (kind, tt) a (kind, tt)
+    (start : Start) (a : Answer) (before after : List Call) (earlier later : List Reply) (r : Reply) (last : Device)
+    → Started start a
     → Chained (before ++ (call ∷ after)) (a .device) (earlier ++ (r ∷ later)) last
     → length earlier ≡ length before → r .code ≡ 0
-    → Told (machine kind before .device) (r .value)
+    → Told (machine start before .device) (r .value)
 
 -- What a replay leaves: the machine's state, its replies as they read back from the answers, and what lies past them as it was
 pub record Same (m : Ran) (n : ℕ) (last : Device) (before after : List ℕ) : Type 0 where
@@ -144,9 +154,10 @@ pub record Same (m : Ran) (n : ℕ) (last : Device) (before after : List ℕ) : 
 pub record Demand3 : Type 0 where
   -- any list of calls from any device: every reply, and the device at the end, are the plain machine's
   pub from-any : {cs : List Call} {d : Device} {rs : List Reply} {last : Device} → Chained cs d rs last → ran rs last ≡ run cs d
-  -- the same from what reset gives the kind, 51 or 52: the machine's only inputs are the kind and the list
-  pub from-reset : (kind : ℕ) {a : Answer} {cs : List Call} {rs : List Reply} {last : Device}
-      → reset-reads.Learnt tt (kind, tt) a (kind, tt) → Chained cs (a .device) rs last → ran rs last ≡ machine kind cs
+  -- the same from what reset gives the kind, 51 or 52, and from the device of a file: the machine's only inputs are the kind or the file's
+  -- bytes, and the list
+  pub from-start : (start : Start) {a : Answer} {cs : List Call} {rs : List Reply} {last : Device}
+      → Started start a → Chained cs (a .device) rs last → ran rs last ≡ machine start cs
   -- every list makes such a chain, refused calls included
   pub every-list : (cs : List Call) (d : Device) → Chained cs d (run cs d .replies) (run cs d .device)
   pub asks-nothing : AsksNothing

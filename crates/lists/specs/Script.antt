@@ -6,7 +6,7 @@ use mathlib.Core.List.{List, [], _∷_, _++_}
 use lib.ListN.{length, getD, take, drop}
 use lib.Dec.{eqb}
 use Rattle.machine.specs.declared.Device.{Device}
-use Rattle.machine.specs.Lists.{Call, Reply, Ran, run, machine, says}
+use Rattle.machine.specs.Lists.{Call, Reply, Ran, run, Start, machine, says}
 use Rattle.machine.specs.Lists.Value.{numbers, none}
 use Rattle.calls.specs.Row.{callOf, answerWords, noneMark, rowOf}
 
@@ -67,9 +67,9 @@ pub record Answered (m : Ran) (last : Device) (before after : List ℕ) : Type 0
   pub state : last ≡ m .device
   pub answers : after ≡ written (m .replies) before
 
--- a script from any device, and from what reset gives a kind
+-- a script from any device, and from where the plain machine starts: what reset gives a kind, or the values of a file
 abbrev pub Replayed : Device → Script → List ℕ → Device → List ℕ → Type 0
 Replayed d s before last after = Answered (run (callsOf s before) d) last before after
 
-abbrev pub ReplayedFromReset : ℕ → Script → List ℕ → Device → List ℕ → Type 0
-ReplayedFromReset kind s before last after = Answered (machine kind (callsOf s before)) last before after
+abbrev pub ReplayedFrom : Start → Script → List ℕ → Device → List ℕ → Type 0
+ReplayedFrom start s before last after = Answered (machine start (callsOf s before)) last before after

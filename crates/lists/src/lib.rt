@@ -3,7 +3,8 @@
 ghost use mathlib.Core.Path.{_≡_};
 ghost use Prim.Native.Nat.{_/_, min};
 ghost use Rattle.calls.specs.Row.{answerWords};
-ghost use Rattle.lists.specs.Script.{script, callWords, Replayed, ReplayedFromReset};
+ghost use Rattle.machine.specs.Lists.Start.{fromReset, fromFile};
+ghost use Rattle.lists.specs.Script.{script, callWords, Replayed, ReplayedFrom};
 use calls::ANSWER_WORDS;
 use machine::Device;
 
@@ -44,9 +45,18 @@ pub fn replay(d: Device, calls: &[u64], lent: &[u32], answers: &mut [u64]) -> De
 
 // A whole script from what reset gives a kind.
 pub fn replay_from_reset(kind: u8, calls: &[u64], lent: &[u32], answers: &mut [u64]) -> Device
-    ensures { λ r. ⌜ ReplayedFromReset kind (script (now (calls .entry)) (now (lent .entry))) (now (answers .entry)) r (now (answers .exit)) ⌝ }
+    ensures { λ r. ⌜ ReplayedFrom (fromReset kind) (script (now (calls .entry)) (now (lent .entry))) (now (answers .entry)) r (now (answers .exit)) ⌝ }
 {
     let a = c51_access::reset(kind);
+    let d = a.device;
+    replay(d, calls, lent, answers)
+}
+
+// A whole script from the device of a file; a refused file gives the kind 0 record.
+pub fn replay_from_file(file: &[u8], calls: &[u64], lent: &[u32], answers: &mut [u64]) -> Device
+    ensures { λ r. ⌜ ReplayedFrom (fromFile (now (file .entry))) (script (now (calls .entry)) (now (lent .entry))) (now (answers .entry)) r (now (answers .exit)) ⌝ }
+{
+    let a = c51_checkpoint::load(file);
     let d = a.device;
     replay(d, calls, lent, answers)
 }

@@ -13,7 +13,9 @@ pub mod Cycle
 pub mod Totals
 pub mod Rollovers
 pub mod Calls
+pub mod Checkpoint
 pub mod Lists
 pub mod Replies
 pub mod Sleep
 pub mod Cards
+pub mod Files

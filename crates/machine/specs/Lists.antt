@@ -1,5 +1,5 @@
 -- Document 01, "The plain machine": a list of calls, the answers to it and the state at its end. Document 02, request One: wake looks
--- are among them; request Seven: a jump and a trace run answer three numbers.
+-- are among them; request Seven: a jump and a trace run answer three numbers; request Eight: a list may start from a loaded device.
 use Prim.Native.Nat.{ℕ}
 use mathlib.Core.List.{List, [], _∷_}
 use Rattle.machine.specs.declared.Device.{Device}
@@ -15,6 +15,7 @@ use Rattle.machine.specs.declared.OfferAnswer.the-variants as Offer
 use Rattle.machine.specs.declared.LookAnswer.{LookAnswer}
 use Rattle.machine.specs.declared.LookAnswer.the-variants as Look
 use Rattle.machine.specs.Calls.{resetAnswer, readAnswer, writeAnswer, cycleAnswer, jumpAnswer, traceAnswer, lookAnswer, offerAnswer, takeAnswer, returnAnswer, wakeAnswer}
+use Rattle.machine.specs.Checkpoint.{loadAnswer}
 
 -- a call with its arguments other than the device
 pub data Call : Type 0 where
@@ -119,6 +120,15 @@ run (c ∷ cs) d =
     let r = run cs (p .device) in
     ran (p .reply ∷ r .replies) (r .device)
 
--- the plain machine: it starts with what reset gives the kind, and its only inputs are the kind and the list
-unfoldable pub machine : ℕ → List Call → Ran
-machine kind cs = run cs (resetAnswer kind .device)
+-- where a list starts: from what reset gives a kind, or (request Eight) from the values of a file
+pub data Start : Type 0 where
+  fromReset : ℕ → Start
+  fromFile : List ℕ → Start
+
+unfoldable pub started : Start → Answer
+started (fromReset kind) = resetAnswer kind
+started (fromFile bytes) = loadAnswer bytes
+
+-- the plain machine: its only inputs are where it starts and the list
+unfoldable pub machine : Start → List Call → Ran
+machine s cs = run cs (started s .device)

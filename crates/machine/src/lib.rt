@@ -198,3 +198,9 @@ pub enum LookAnswer {
     At(u64),
     Nothing,
 }
+
+// A part of a checkpoint: a byte that can only be this one, a count or an address; or the value of a place, in so many bytes.
+pub enum Part {
+    Mark(u8),
+    Value { place: usize, width: usize },
+}

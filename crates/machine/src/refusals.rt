@@ -30,3 +30,11 @@ pub const BAD_COUNT: u8 = 13;
 
 // Of the speed finder (request Four): a crystal, rate or tolerance outside its limits.
 pub const BAD_SPEED: u8 = 14;
+
+// Of a checkpoint (request Eight): a file cut short or with bytes left over, a buffer of another length; a wrong count or address; a value
+// that BAD_RECORD would refuse, an ever byte above 1 or a received byte that disagrees.
+pub const BAD_LENGTH: u8 = 15;
+
+pub const BAD_LAYOUT: u8 = 16;
+
+pub const BAD_VALUE: u8 = 17;

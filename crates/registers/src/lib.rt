@@ -87,7 +87,7 @@ pub enum Place {
 }
 
 // A row of the table.
-fn row(n: usize) -> [u8; 3]
+pub fn row(n: usize) -> [u8; 3]
     requires { ⌜ n < 16 ⌝ }
     ensures { λ r. ⌜ r ≡ rowAt n ⌝ }
 {

@@ -1,11 +1,14 @@
-//! The benchmark: single cycles, offers, the idle station, a device at rest and in power-down, the 82C53 and the board, a speed, a
-//! frame, and a thousand tags, next to the plain model and to other programs.
+//! The benchmark: single cycles, offers, the idle station, a device at rest and in power-down, checkpoints, the 82C53 and the board, a
+//! speed, a frame, and a thousand tags, next to the plain model and to other programs.
 use bench::others::{emu8051, s51, Figure};
 use bench::plain::Plain;
 use bench::tight::Idle;
 use bench::timing::{race, seconds, Contender};
-use c51::{address, control, flag, pcon, pin, port, raw, Board, Device, Interval, GATES_HIGH, MAX_CYCLES, PINS_HIGH};
+use c51::{
+    address, control, flag, pcon, pin, port, raw, Board, Device, Interval, CHECKPOINT_52, GATES_HIGH, MAX_CYCLES, PINS_HIGH,
+};
 use c51model::baud::find_speed;
+use c51model::checkpoint;
 use c51model::model::set_stage;
 use compare::record::{interval_to_model, to_model};
 use compare::STAGE;
@@ -44,6 +47,7 @@ fn main() {
     let per_cycle = idle_station(part);
     at_rest(part);
     power_down(part);
+    checkpoints(part);
     interval_timer(part);
     board(part);
     speed(part);
@@ -318,6 +322,49 @@ fn power_down(part: u64) {
     for (pair, times) in contenders.chunks(2).zip(times.chunks(2)) {
         lines(pair, times, calls, ("ns", 1e9), 1);
     }
+}
+
+/// A save and a load of a device in the middle of a frame, next to the record check, which both make: the save first, the load part by
+/// part.
+fn checkpoints(part: u64) {
+    let calls = MANY_CALLS / part / 10;
+    let mut device = all_running();
+    device.jump(PINS_HIGH, SENDING / 2).expect(PASSES);
+    let file = device.save().expect("a device that is accepted");
+    assert_eq!((file.len(), Device::load(&file)), (CHECKPOINT_52, Ok(device)));
+    let model = to_model(&device);
+    let mut contenders = [
+        Contender::new("save (c51_save)", || {
+            let mut buffer = [0; CHECKPOINT_52];
+            for _ in 0..calls {
+                black_box(raw::save(black_box(device), black_box(&mut buffer)));
+            }
+        }),
+        Contender::new("load (c51_load)", || {
+            for _ in 0..calls {
+                black_box(raw::load(black_box(&file)));
+            }
+        }),
+        Contender::new("record check (c51_accepts)", || {
+            for _ in 0..calls {
+                black_box(raw::c51_accepts(black_box(device)));
+            }
+        }),
+        Contender::new("save, plain model", || {
+            let mut buffer = [0; CHECKPOINT_52];
+            for _ in 0..calls {
+                black_box(checkpoint::write(black_box(&model), black_box(&mut buffer))).expect("a device that is accepted");
+            }
+        }),
+        Contender::new("load, plain model", || {
+            for _ in 0..calls {
+                black_box(checkpoint::read(black_box(&file))).expect("a checkpoint");
+            }
+        }),
+    ];
+    let times = race(RUNS, &mut contenders);
+    println!("\nA checkpoint of {CHECKPOINT_52} bytes:");
+    lines(&contenders, &times, calls, ("ns", 1e9), 2);
 }
 
 /// An 82C53 whose three counters count: mode 0, mode 2, and mode 2 in BCD.

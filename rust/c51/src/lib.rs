@@ -2,8 +2,8 @@
 //!
 //! A [`Device`] is the plain record of `c51.h`, with public fields. Any content is answered: a record that is no
 //! device's is refused as [`Refusal::BadRecord`]. A refused call leaves the device as it was. The same goes for an
-//! [`Interval`], which is the 82C53, and for a [`Board`], which has both chips. [`speed()`] gives SMOD and TH1 for a wanted
-//! speed, and needs no device.
+//! [`Interval`], which is the 82C53, and for a [`Board`], which has both chips. [`Device::save`] and [`Device::load`] move a
+//! device to another computer. [`speed()`] gives SMOD and TH1 for a wanted speed, and needs no device.
 //!
 //! ```
 //! use c51::{address, Device, PINS_HIGH};
@@ -21,12 +21,14 @@
 //! ```
 
 mod board;
+mod checkpoint;
 mod interval;
 pub mod raw;
 mod speed;
 mod totals;
 
 pub use board::BoardJump;
+pub use checkpoint::{CHECKPOINT_51, CHECKPOINT_52};
 pub use raw::{AnswerRow, CallRow, ANSWER_WORDS, CALL_WORDS, NONE};
 pub use raw::{Board, Counter, Interval};
 pub use raw::{Device, FlagTimes, Interrupts, Receiver, Sender, Serial, Timer2, Timers, Totals};
@@ -182,11 +184,14 @@ pub enum Refusal {
     BadChoice = 12,
     BadCount = 13,
     BadSpeed = 14,
+    BadLength = 15,
+    BadLayout = 16,
+    BadValue = 17,
 }
 
 impl Refusal {
     /// Every refusal, in the order of the codes.
-    pub const ALL: [Refusal; 13] = [
+    pub const ALL: [Refusal; 16] = [
         Refusal::BadRecord,
         Refusal::BadKind,
         Refusal::BadAddress,
@@ -200,6 +205,9 @@ impl Refusal {
         Refusal::BadChoice,
         Refusal::BadCount,
         Refusal::BadSpeed,
+        Refusal::BadLength,
+        Refusal::BadLayout,
+        Refusal::BadValue,
     ];
 
     /// The library's code.
@@ -229,6 +237,9 @@ impl std::fmt::Display for Refusal {
             Refusal::BadChoice => "counter choice 3, an address of the 82C53 above 3, or a read at 3",
             Refusal::BadCount => "a BCD digit above nine, or a mode 2 count of 1",
             Refusal::BadSpeed => "crystal not 1 to 40,000,000 Hz, rate not 1 to 1,000,000, or tolerance above 10,000",
+            Refusal::BadLength => "a checkpoint cut short or with bytes left over, or a buffer of another length",
+            Refusal::BadLayout => "a checkpoint with another count or another address",
+            Refusal::BadValue => "a checkpoint with a value outside its range or mask, or a received byte that is not SBUF's",
         })
     }
 }

@@ -134,7 +134,7 @@ pub struct Board {
     pub interval: Interval,
 }
 
-/// A reset.
+/// A reset or a load.
 #[repr(C)]
 #[derive(Clone, Copy, PartialEq, Eq, Debug)]
 pub struct Answer {
@@ -275,6 +275,8 @@ unsafe extern "C" {
     pub safe fn c51_board_cycle(board: &mut Board, pins: u8, gates: u8) -> BoardAnswer;
     pub safe fn c51_board_jump(board: &mut Board, pins: u8, gates: u8, n: u64) -> BoardJumpAnswer;
     pub safe fn c51_speed(crystal: u64, rate: u64, tolerance: u64) -> SpeedAnswer;
+    fn c51_save(device: Device, buffer: *mut u8, length: usize) -> u8;
+    fn c51_load(file: *const u8, length: usize) -> Answer;
     fn c51_trace(device: &mut Device, entries: *const u32, count: usize) -> RunAnswer;
     fn c51_replay(
         device: &mut Device,
@@ -285,6 +287,18 @@ unsafe extern "C" {
         answers: *mut u64,
         answers_length: usize,
     );
+}
+
+/// `c51_save` into a slice.
+pub fn save(device: Device, buffer: &mut [u8]) -> u8 {
+    // The pointer and the length are those of one slice.
+    unsafe { c51_save(device, buffer.as_mut_ptr(), buffer.len()) }
+}
+
+/// `c51_load` of a slice.
+pub fn load(file: &[u8]) -> Answer {
+    // The pointer and the length are those of one slice.
+    unsafe { c51_load(file.as_ptr(), file.len()) }
 }
 
 /// `c51_trace` over a slice.

@@ -1,5 +1,5 @@
 /* Every call of the library once from C, with an answer that the bench cards and the table of refusals give; when flags last rose;
- * how often timers overflowed; and lists of calls. */
+ * how often timers overflowed; checkpoints; and lists of calls. */
 #include <c51.h>
 #include <stdio.h>
 #include <string.h>
@@ -207,6 +207,96 @@ static void totals(void) {
     device = written(baud);
     check(are(c51_jump(&device, C51_PINS_HIGH, 1).totals, 0, 0, 2), "two overflows of Timer 2 in a cycle");
     check(are(c51_jump(&device, C51_PINS_HIGH, 1000).totals, 0, 0, 2000), "and in each of 1,000");
+}
+
+/* Whether a file is refused by this code, and gives a record all zero. */
+static int refused(const uint8_t *file, size_t length, uint8_t code) {
+    c51_device zeros = c51_reset(0).device;
+    c51_answer load = c51_load(file, length);
+    return load.code == code && same(&load.device, &zeros);
+}
+
+/* Whether every byte of a buffer is this one. */
+static int all(const uint8_t *buffer, size_t length, uint8_t byte) {
+    size_t i;
+    for (i = 0; i < length; i++) {
+        if (buffer[i] != byte) return 0;
+    }
+    return 1;
+}
+
+/* A device in the middle of a byte that it sends, in serial mode 0, TF0 having risen in cycle 2; and one of kind 51 at rest. */
+static void checkpoints(void) {
+    static const uint8_t sending[][2] = {{C51_TMOD, 0x01}, {C51_TH0, 0xFF},  {C51_TL0, 0xFE}, {C51_IE, 0x82},
+                                         {C51_TCON, 0x10}, {C51_SBUF, 0x35}, {0, 0}};
+    /* the places of PCON's value, of the count of hidden fields, of the received byte, of the cycle number, of the level of RXD, of the
+     * count of flag times, and of TF0's ever byte with its number behind it */
+    enum { PCON = 2, HIDDEN = 33, RECEIVED = 106, CYCLE = 170, RXD = 178, TIMES = 234, TF0 = 235 };
+    c51_device device = written(sending), moved, bad, zeros = c51_reset(0).device, reset = c51_reset(51).device;
+    uint8_t file[C51_CHECKPOINT_52], other[C51_CHECKPOINT_52 + 1];
+    size_t length;
+    c51_answer load;
+    check(c51_jump(&device, C51_PINS_HIGH, 5).code == C51_PASSED && device.serial.send.position != 0, "in the middle of a byte");
+    check(c51_save(device, file, C51_CHECKPOINT_52) == C51_PASSED, "save");
+    check(file[0] == 16 && file[1] == C51_PCON && file[3] == C51_TCON && file[4] == 0x30, "the first registers");
+    check(file[HIDDEN] == 25 && file[CYCLE] == 5 && all(file + CYCLE + 1, 7, 0), "the cycle number, low byte first");
+    check(file[TIMES] == 8 && file[TF0] == 1 && file[TF0 + 1] == 2, "the flag times");
+    check(all(file + TF0 + 2, sizeof file - TF0 - 2, 0), "no other flag rose");
+    load = c51_load(file, C51_CHECKPOINT_52);
+    check(load.code == C51_PASSED && same(&load.device, &device) && c51_accepts(load.device) == 1, "load");
+    moved = load.device;
+    check(c51_look(moved, C51_PINS_HIGH, 100).at == 5, "the moved device sends the rest of the byte");
+    check(c51_jump(&moved, C51_PINS_HIGH, 5).code == C51_PASSED, "the moved device goes on");
+    check(c51_jump(&device, C51_PINS_HIGH, 5).code == C51_PASSED, "and so does the other");
+    check(same(&moved, &device) && C51_LAST_RISE(moved, C51_FLAG_TI) == 10, "and end alike");
+
+    memset(other, 0xAA, sizeof other);
+    check(c51_save(reset, other, C51_CHECKPOINT_51) == C51_PASSED && other[0] == 11 && other[23] == 25 && other[224] == 8, "kind 51");
+    check(all(other + C51_CHECKPOINT_51, sizeof other - C51_CHECKPOINT_51, 0xAA), "no byte past the buffer");
+    load = c51_load(other, C51_CHECKPOINT_51);
+    check(load.code == C51_PASSED && same(&load.device, &reset), "a load of kind 51");
+
+    memset(other, 0xAA, sizeof other);
+    bad = device;
+    bad.levels[0] = 2;
+    for (length = 0; length <= sizeof other; length++) {
+        check(c51_save(bad, other, length) == C51_BAD_RECORD && c51_save(zeros, other, length) == C51_BAD_RECORD, "1 before 15");
+        check(length == C51_CHECKPOINT_51 || c51_save(reset, other, length) == C51_BAD_LENGTH, "a buffer of another length, kind 51");
+        check(length == C51_CHECKPOINT_52 || c51_save(device, other, length) == C51_BAD_LENGTH, "a buffer of another length, kind 52");
+    }
+    check(all(other, sizeof other, 0xAA), "a refused save leaves the buffer");
+
+    memcpy(other, file, sizeof file);
+    other[C51_CHECKPOINT_52] = 0;
+    for (length = 0; length < C51_CHECKPOINT_52; length++) check(refused(other, length, C51_BAD_LENGTH), "cut short");
+    check(refused(other, sizeof other, C51_BAD_LENGTH), "a byte left over");
+    other[0] = 11;
+    check(refused(other, C51_CHECKPOINT_52, C51_BAD_LAYOUT), "the count of the other kind");
+    other[0] = 16;
+    other[1] = C51_TCON;
+    check(refused(other, C51_CHECKPOINT_52, C51_BAD_LAYOUT), "another address");
+    other[1] = C51_PCON;
+    other[HIDDEN] = 24;
+    check(refused(other, C51_CHECKPOINT_52, C51_BAD_LAYOUT), "another count of hidden fields");
+    other[HIDDEN] = 25;
+    other[TIMES] = 9;
+    check(refused(other, C51_CHECKPOINT_52, C51_BAD_LAYOUT), "another count of flag times");
+    other[TIMES] = 8;
+    other[PCON] = 0x10;
+    check(refused(other, C51_CHECKPOINT_52, C51_BAD_VALUE), "a bit that PCON lacks");
+    other[PCON] = 0;
+    other[RECEIVED] ^= 1;
+    check(refused(other, C51_CHECKPOINT_52, C51_BAD_VALUE), "a received byte that disagrees");
+    other[RECEIVED] ^= 1;
+    other[RXD] = 2;
+    check(refused(other, RXD + 7, C51_BAD_LENGTH) && refused(other, RXD + 8, C51_BAD_VALUE), "a level of 2, cut inside and after it");
+    other[RXD] = 1;
+    other[TF0] = 2;
+    check(refused(other, TF0 + 1, C51_BAD_VALUE) && refused(other, sizeof other, C51_BAD_VALUE), "an ever byte of 2, also cut off");
+    other[TF0] = 0;
+    check(refused(other, C51_CHECKPOINT_52, C51_BAD_VALUE), "never, with a number");
+    other[TF0] = 1;
+    check(c51_load(other, C51_CHECKPOINT_52).code == C51_PASSED, "all as it was");
 }
 
 /* A call of a list, and its answer. */
@@ -430,6 +520,7 @@ int main(void) {
     calls();
     rises();
     totals();
+    checkpoints();
     lists();
     intervals();
     boards();

@@ -1,8 +1,8 @@
 //! The layout of the records and of the answers, size and each offset, and the constants: in Rust and in a C program
-//! that includes `c51.h`.
+//! that includes `c51.h`; every call from C, and the C program of docs/CHECKPOINT.md.
 use c51::raw::*;
 use c51::{address, call, control, gate, out, pcon, pin, port, Flag, Refusal};
-use c51::{GATES_HIGH, MAX_CRYSTAL, MAX_CYCLES, MAX_RATE, MAX_TOLERANCE, MAX_TRACE, PINS_HIGH};
+use c51::{CHECKPOINT_51, CHECKPOINT_52, GATES_HIGH, MAX_CRYSTAL, MAX_CYCLES, MAX_RATE, MAX_TOLERANCE, MAX_TRACE, PINS_HIGH};
 use std::collections::BTreeSet;
 use std::mem::{offset_of, size_of};
 use std::path::{Path, PathBuf};
@@ -109,6 +109,9 @@ fn constants() -> Vec<Constant> {
         ("C51_BAD_CHOICE", Refusal::BadChoice as u64),
         ("C51_BAD_COUNT", Refusal::BadCount as u64),
         ("C51_BAD_SPEED", Refusal::BadSpeed as u64),
+        ("C51_BAD_LENGTH", Refusal::BadLength as u64),
+        ("C51_BAD_LAYOUT", Refusal::BadLayout as u64),
+        ("C51_BAD_VALUE", Refusal::BadValue as u64),
         ("C51_FLAG_TF0", Flag::Tf0 as u64),
         ("C51_FLAG_TF1", Flag::Tf1 as u64),
         ("C51_FLAG_IE0", Flag::Ie0 as u64),
@@ -122,6 +125,8 @@ fn constants() -> Vec<Constant> {
         ("C51_MAX_CRYSTAL", MAX_CRYSTAL),
         ("C51_MAX_RATE", MAX_RATE),
         ("C51_MAX_TOLERANCE", MAX_TOLERANCE),
+        ("C51_CHECKPOINT_51", CHECKPOINT_51 as u64),
+        ("C51_CHECKPOINT_52", CHECKPOINT_52 as u64),
         ("C51_PINS_HIGH", PINS_HIGH.into()),
         ("C53_GATES_HIGH", GATES_HIGH.into()),
         ("C51_CALL_WORDS", CALL_WORDS as u64),
@@ -220,6 +225,24 @@ fn the_table_is_whole() {
     let of_counter = places().iter().filter(|place| place.c.starts_with("offsetof(c53_counter,")).count();
     assert_eq!(of_counter, 11 + 4, "bytes and counts");
     assert_eq!(size_of::<Device>() + size_of::<Interval>() + 4, size_of::<Board>(), "four bytes of padding after the 82C53");
+}
+
+/// The program of docs/CHECKPOINT.md compiles and prints what the page says.
+#[test]
+fn the_checkpoint_of_the_document() {
+    let document =
+        std::fs::read_to_string(Path::new(env!("CARGO_MANIFEST_DIR")).join("../../docs/CHECKPOINT.md")).expect("the page");
+    let (_, section) = document.split_once("\n## In C\n").expect("the section");
+    let section = section.split("\n## ").next().expect("its text");
+    let code = |line: &str| line.strip_prefix("    ").map_or(String::new(), |line| line.to_string()) + "\n";
+    let source: String = section.lines().filter(|line| line.is_empty() || line.starts_with("    ")).map(code).collect();
+    let file = Path::new(env!("CARGO_TARGET_TMPDIR")).join("checkpoint.c");
+    std::fs::write(&file, source).expect("the C file is written");
+    let printed = run_c("checkpoint", &file);
+    assert!(
+        printed == "TI rises after 5 cycles more\n" && section.contains(&format!("It prints `{}`", printed.trim_end())),
+        "{printed}"
+    );
 }
 
 #[test]

@@ -23,7 +23,7 @@ fn timer_0_at_fffe() -> Device {
 
 #[test]
 fn codes_and_refusals() {
-    assert_eq!(Refusal::ALL.map(Refusal::code), [1, 2, 3, 4, 5, 6, 7, 8, 10, 11, 12, 13, 14]);
+    assert_eq!(Refusal::ALL.map(Refusal::code), [1, 2, 3, 4, 5, 6, 7, 8, 10, 11, 12, 13, 14, 15, 16, 17]);
     for refusal in Refusal::ALL {
         assert_eq!(Refusal::of_code(refusal.code()), Some(refusal));
         assert!(!refusal.to_string().is_empty());
@@ -32,7 +32,8 @@ fn codes_and_refusals() {
     assert_eq!(Refusal::of_code(9), None, "9 is retired");
     assert_eq!(Refusal::of_code(10), Some(Refusal::PoweredDown));
     assert_eq!(Refusal::of_code(14), Some(Refusal::BadSpeed));
-    assert_eq!(Refusal::of_code(15), None);
+    assert_eq!([15, 16, 17].map(Refusal::of_code), [Refusal::BadLength, Refusal::BadLayout, Refusal::BadValue].map(Some));
+    assert_eq!(Refusal::of_code(18), None);
 }
 
 #[test]
@@ -69,6 +70,7 @@ fn is_refused(given: Device) {
     assert_eq!(device.wake_look(PINS_HIGH, 1), Err(Refusal::BadRecord));
     assert_eq!(device.wake_look(0x80, MAX_CYCLES + 1), Err(Refusal::BadRecord));
     assert_eq!(device.offer(), Err(Refusal::BadRecord));
+    assert_eq!(device.save(), Err(Refusal::BadRecord));
     assert_eq!(device.take(), Err(Refusal::BadRecord));
     assert_eq!(device.return_from_interrupt(), Err(Refusal::BadRecord));
     assert_eq!(device, given);

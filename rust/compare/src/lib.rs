@@ -1,4 +1,5 @@
 //! The proved library beside the model by other hands: every answer and every field of both chips after every call.
+pub mod files;
 pub mod lists;
 pub mod pair;
 pub mod ran;

@@ -1,4 +1,5 @@
 //! Fresh random records of any content and random lists of calls, beside those of the model's generator.
+use crate::files::{file_of, some_file};
 use crate::pair::{Pair, Tally};
 use crate::speeds::speed_call;
 use crate::{entry, STAGE};
@@ -85,7 +86,7 @@ const RUN_2: u8 = 0x04;
 
 /// A record of any content within the ranges and masks: reachable or not, it is accepted. In half of them counts are
 /// about to overflow and laps are short, and in half of them timers run.
-fn good_record(rng: &mut Rng) -> Device {
+pub fn good_record(rng: &mut Rng) -> Device {
     let mut d = any_record(rng);
     d.kind = rng.pick(&[51, 52, 52]);
     d.pcon = some_pcon(rng) & 0x8F;
@@ -470,6 +471,9 @@ pub fn run_record(rng: &mut Rng) -> Result<Tally, String> {
     for name in BOARD_NAMES {
         tally += pair.clone().run([Request::Board(board_call(rng, name, 8))])?;
     }
+    for request in [Request::Save, Request::Load(some_file(rng))] {
+        tally += pair.clone().run([request])?;
+    }
     Ok(tally)
 }
 
@@ -500,9 +504,10 @@ fn next_board_name(rng: &mut Rng) -> BoardName {
     }
 }
 
-/// Calls of a list: one of so many asks for a speed; of the others one of so many is of the 82C53 or of the board; of the rest one
-/// of so many puts the device to sleep, and in power-down one of so many ends it.
+/// Calls of a list: one of so many asks for a speed; of the others one of so many saves or loads a checkpoint; of the others one of so
+/// many is of the 82C53 or of the board; of the rest one of so many puts the device to sleep, and in power-down one of so many ends it.
 const SPEED: u64 = 25;
+const CHECKPOINT: u64 = 20;
 const BOARD: u64 = 3;
 const SLEEP: u64 = 20;
 const END_OF_POWER_DOWN: u64 = 10;
@@ -516,6 +521,15 @@ fn next_call(rng: &mut Rng, powered_down: bool, most: u64) -> Call {
     } else {
         let name = next_name(rng);
         call(rng, name, most)
+    }
+}
+
+/// A list's next save or load. Most files pass: after one that does not, every call but a reset or a load is refused.
+fn next_checkpoint(rng: &mut Rng) -> Request {
+    match rng.below(8) {
+        0..=3 => Request::Save,
+        4..=6 => Request::Load(file_of(&good_record(rng))),
+        _ => Request::Load(some_file(rng)),
     }
 }
 
@@ -535,6 +549,7 @@ pub fn run_list(rng: &mut Rng, length: u64) -> Result<Tally, String> {
         _ => Interval::reset(),
     };
     let mut powered_down = false;
+    let mut refused = false;
     let first = match rng.below(3) {
         0 => {
             let device = good_record(rng);
@@ -545,8 +560,21 @@ pub fn run_list(rng: &mut Rng, length: u64) -> Result<Tally, String> {
     };
     let most = rng.pick(&[3, 30, 300, 3000]);
     let calls = (1..length).map(|_| {
+        if refused && rng.one_in(2) {
+            (refused, powered_down) = (false, false);
+            return Request::Call(Call::Reset(rng.pick(&[51, 52])));
+        }
         if rng.one_in(SPEED) {
             return Request::Speed(speed_call(rng));
+        }
+        if rng.one_in(CHECKPOINT) {
+            let request = next_checkpoint(rng);
+            if let Request::Load(file) = &request {
+                let loaded = Device::load(file);
+                refused = loaded.is_err();
+                powered_down = loaded.is_ok_and(|device| device.pcon & pcon::PD != 0);
+            }
+            return request;
         }
         if rng.one_in(BOARD) {
             let name = next_board_name(rng);

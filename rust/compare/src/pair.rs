@@ -1,4 +1,5 @@
 //! A board of the library and one of the model, run by the same calls.
+use crate::files::{compare_load, compare_save, Loads};
 use crate::ran::{row, Ran};
 use crate::reach::{shortened, REACH};
 use crate::record::{board_to_model, interval_of_model, interval_to_model, to_model, Model};
@@ -138,19 +139,19 @@ impl Pair {
             tally += Tally::of(&request, &answer, &before.device, &self.library.device);
             match request {
                 Request::Call(call) => ran.push(call, answer, self.library.device)?,
-                Request::Board(_) | Request::Put(_) => {
+                Request::Board(_) | Request::Load(_) | Request::Put(_) => {
                     ran.compare()?;
                     ran = Ran::from(self.library.device);
                 }
-                Request::Speed(_) | Request::Dump => {}
+                Request::Speed(_) | Request::Save | Request::Dump => {}
             }
         }
         ran.compare()?;
         Ok(tally)
     }
 
-    /// Runs one of them on both, and compares the answers and the records; gives the answer that a call has in a list, and
-    /// one with the totals of a jump of the board.
+    /// Runs one of them on both, and compares the answers and the records; gives the answer that a call has in a list, one
+    /// with the totals of a jump of the board, and one with the code of a save or a load.
     fn step(&mut self, request: &Request) -> Result<AnswerRow, String> {
         let mut answer = row(0, Some(&[]));
         match request {
@@ -158,6 +159,13 @@ impl Pair {
             Request::Board(call) => answer = row(0, Some(&self.board_call(call)?)),
             Request::Speed(call) => {
                 compare_speed(call)?;
+            }
+            Request::Save => answer = row(compare_save(&self.library.device, &self.model.device)?, Some(&[])),
+            Request::Load(file) => {
+                let (loaded, model) = compare_load(file)?;
+                self.library.device = loaded.device;
+                self.model.device = model;
+                answer = row(loaded.code, Some(&[]));
             }
             Request::Put(device) => {
                 self.library.device = **device;
@@ -354,6 +362,9 @@ pub struct Tally {
     pub of_the_board: u64,
     /// The calls for a speed.
     pub for_a_speed: u64,
+    /// The saves that passed, and the loads.
+    pub saved: u64,
+    pub loads: Loads,
     /// The jumps and trace runs, of the chip and of the board, in which Timers 0, 1 and 2 overflowed.
     pub overflowed: [u64; 3],
 }
@@ -364,6 +375,10 @@ impl Tally {
         let in_power_down = before.pcon & pcon::PD != 0 && before.accepts();
         let woken = *request == Request::Call(Call::Take) && before.pcon & !after.pcon & pcon::IDL != 0;
         let has_totals = matches!(request, Request::Call(Call::Jump(..) | Call::Trace(_)) | Request::Board(_));
+        let mut loads = Loads::default();
+        if let Request::Load(_) = request {
+            loads.add(answer[0] as u8);
+        }
         Tally {
             calls: 1,
             cycles: cycles(request, before, after),
@@ -371,6 +386,8 @@ impl Tally {
             woken: woken.into(),
             of_the_board: matches!(request, Request::Board(_)).into(),
             for_a_speed: matches!(request, Request::Speed(_)).into(),
+            saved: (*request == Request::Save && answer[0] == 0).into(),
+            loads,
             overflowed: [2, 3, 4].map(|word| (has_totals && answer[word] > 0).into()),
         }
     }
@@ -384,6 +401,8 @@ impl std::ops::AddAssign for Tally {
         self.woken += other.woken;
         self.of_the_board += other.of_the_board;
         self.for_a_speed += other.for_a_speed;
+        self.saved += other.saved;
+        self.loads += other.loads;
         self.overflowed.iter_mut().zip(other.overflowed).for_each(|(count, other)| *count += other);
     }
 }

@@ -38,6 +38,8 @@ fn scripts_of_the_model() {
     assert!(total.cycles > 1_000_000, "{total:?}");
     assert!(total.of_the_board > SCRIPTS_OF_A_STYLE * LINES, "{total:?}");
     assert!(total.for_a_speed > SCRIPTS_OF_A_STYLE * LINES / 2, "{total:?}");
+    assert!(total.saved > LINES / 2, "{total:?}");
+    assert!(total.loads.counts().iter().all(|&count| count > LINES / 20), "{total:?}");
     assert!(total.overflowed.iter().all(|&runs| runs > total.calls / 100), "{total:?}");
     assert_eq!(rare_rules(SIX, 100), [""; 0], "each flag's first and later rises");
     assert_eq!(rare_rules(SEVEN, 100), [""; 0], "TL0 and TH0 overflow in one cycle");
@@ -70,6 +72,8 @@ fn fresh_lists() {
     assert!(total.woken > LISTS / 20, "{total:?}");
     assert!(total.of_the_board > total.calls / 4, "{total:?}");
     assert!(total.for_a_speed > total.calls / 50, "{total:?}");
+    assert!(total.saved > total.calls / 60 && total.loads.passed > total.calls / 60, "{total:?}");
+    assert!(total.loads.counts().iter().all(|&count| count > LISTS / 50), "{total:?}");
     assert!(total.overflowed.iter().all(|&runs| runs > LISTS / 20), "{total:?}");
     assert_eq!(rare_rules(THREE, 50), [""; 0], "every rule of the 82C53");
     assert_eq!(rare_rules(SIX, 10), [""; 0], "each flag's first and later rises");
@@ -111,7 +115,8 @@ fn raw_records() {
     assert_eq!(rare_rules(SEVEN, RECORDS / 50), [""; 0], "TL0 and TH0 overflow in one cycle");
     assert_eq!(rare_rules(BAUD, RECORDS / 2_000), [""; 0], "one to six overflows of Timer 2 in a cycle");
     assert!(total.overflowed.iter().all(|&runs| runs > RECORDS / 25), "{total:?}");
-    assert_eq!((total.calls, total.of_the_board), (18 * RECORDS, 7 * RECORDS));
+    assert_eq!((total.calls, total.of_the_board), (20 * RECORDS, 7 * RECORDS));
+    assert!(total.saved > RECORDS / 3 && total.loads.counts().iter().all(|&count| count > RECORDS / 20), "{total:?}");
     assert!((total.calls / 40..total.calls / 5).contains(&total.in_power_down), "{total:?}");
     assert!(total.woken > RECORDS / 100, "{total:?}");
 }

@@ -13,6 +13,11 @@ impl Rng {
         Rng(Rng(seed ^ Rng(number).number()).number())
     }
 
+    /// The seed of a generator that goes on as this one does.
+    pub fn seed(&self) -> u64 {
+        self.0
+    }
+
     pub fn number(&mut self) -> u64 {
         self.0 = self.0.wrapping_add(0x9E37_79B9_7F4A_7C15);
         let mut z = self.0;
@@ -54,6 +59,9 @@ mod tests {
         assert_eq!(numbers(Rng::new(7)), numbers(Rng::new(7)));
         assert_ne!(numbers(Rng::new(7)), numbers(Rng::new(8)));
         assert_ne!(numbers(Rng::part(7, 0)), numbers(Rng::part(7, 1)));
+        let mut rng = Rng::new(1);
+        rng.number();
+        assert_eq!(numbers(Rng::new(rng.seed())), numbers(rng));
         let mut rng = Rng::new(1);
         assert!((0..1000).all(|_| (3..=5).contains(&rng.between(3, 5))));
     }

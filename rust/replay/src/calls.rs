@@ -1,5 +1,6 @@
 //! What a line of a script asks for: as a line's name and numbers, as text, and as a row of a list.
 use crate::board::BoardCall;
+use crate::checkpoint::Hex;
 use crate::lines::Numbers;
 use crate::record;
 use crate::speed::SpeedCall;
@@ -30,6 +31,10 @@ pub enum Request {
     Board(BoardCall),
     /// The call that asks for a speed.
     Speed(SpeedCall),
+    /// The device's checkpoint.
+    Save,
+    /// A checkpoint in place of the device; of a longer file than any checkpoint, as much as tells that it is longer.
+    Load(Vec<u8>),
     /// A raw record in place of the device.
     Put(Box<Device>),
     /// The device's numbers.
@@ -54,11 +59,12 @@ fn entries(numbers: &Numbers) -> Option<Vec<u32>> {
 }
 
 impl Request {
-    /// What a line of this name and these numbers asks for, or none where it is a fault.
+    /// What a line of this name and these numbers asks for, or none where it is a fault. A load has no numbers, but a file.
     pub fn of(name: &[u8], numbers: &Numbers) -> Option<Request> {
         match (name, numbers.first.as_slice()) {
             (b"S", numbers) => Some(Request::Put(Box::new(record::of_numbers(numbers)?))),
             (b"D", []) => Some(Request::Dump),
+            (b"P", []) => Some(Request::Save),
             (&[b'V', letter], numbers) => BoardCall::of(letter, numbers).map(Request::Board),
             (b"B", &[crystal, rate, tolerance]) => Some(Request::Speed(SpeedCall { crystal, rate, tolerance })),
             _ => Call::of(name, numbers).map(Request::Call),
@@ -113,6 +119,9 @@ impl fmt::Display for Request {
             Request::Call(call) => call.fmt(f),
             Request::Board(call) => call.fmt(f),
             Request::Speed(call) => call.fmt(f),
+            Request::Save => f.write_str("P"),
+            Request::Load(file) if file.is_empty() => f.write_str("Q"),
+            Request::Load(file) => write!(f, "Q {}", Hex(file)),
             Request::Put(device) => write!(f, "S {}", record::text(device)),
             Request::Dump => f.write_str("D"),
         }

@@ -1,6 +1,7 @@
-//! A line of a script, taken byte by byte: a name, and numbers with one space before each. What is kept of it is
-//! bounded, however long it is.
+//! A line of a script, taken byte by byte: a name, and numbers with one space before each, or a file in hexadecimal. What is
+//! kept of it is bounded, however long it is.
 use crate::calls::Request;
+use crate::checkpoint::{File, LOAD};
 use c51::MAX_TRACE;
 
 /// The bytes of the longest name.
@@ -40,6 +41,8 @@ enum Place {
     Name,
     Gap,
     Digits,
+    /// The digits of a file.
+    Hex,
     /// No call: neither this byte nor one after it is kept.
     Fault,
 }
@@ -52,6 +55,7 @@ pub struct Line {
     numbers: Numbers,
     /// The number whose digits are being read.
     number: u64,
+    file: File,
 }
 
 impl Line {
@@ -59,6 +63,7 @@ impl Line {
     pub fn take(&mut self, bytes: &[u8]) {
         for &byte in bytes {
             self.place = match (self.place, byte) {
+                (Place::Name, b' ') if self.name == LOAD => Place::Hex,
                 (Place::Name, b' ') => Place::Gap,
                 (Place::Name, _) if self.name.len() < LONGEST_NAME => {
                     self.name.push(byte);
@@ -69,6 +74,10 @@ impl Line {
                     self.end_number();
                     Place::Gap
                 }
+                (Place::Hex, _) => char::from(byte).to_digit(16).map_or(Place::Fault, |digit| {
+                    self.file.push(digit as u8);
+                    Place::Hex
+                }),
                 _ => Place::Fault,
             };
         }
@@ -101,13 +110,15 @@ impl Line {
             self.end_number();
         }
         let request = match self.place {
-            Place::Name | Place::Digits => Request::of(&self.name, &self.numbers),
             Place::Gap | Place::Fault => None,
+            _ if self.name == LOAD => self.file.request(),
+            _ => Request::of(&self.name, &self.numbers),
         };
         self.place = Place::Name;
         self.name.clear();
         self.numbers.clear();
         self.number = 0;
+        self.file.clear();
         request
     }
 }
@@ -124,6 +135,7 @@ mod tests {
     use super::*;
     use crate::board::BoardCall;
     use crate::calls::Call;
+    use crate::checkpoint::KEPT;
     use crate::record::{numbers, text};
     use crate::speed::SpeedCall;
     use c51::Device;
@@ -240,6 +252,52 @@ mod tests {
         }
     }
 
+    fn load(line: &str) -> Option<Vec<u8>> {
+        match request(line.as_bytes()) {
+            Some(Request::Load(file)) => Some(file),
+            Some(other) => panic!("{line}: {other:?}"),
+            None => None,
+        }
+    }
+
+    /// A save has no numbers; a load has a file in pairs of hexadecimal digits, in small letters or capitals. With none it is the empty
+    /// file.
+    #[test]
+    fn checkpoints() {
+        assert_eq!((request(b"P"), Request::Save.to_string()), (Some(Request::Save), "P".to_string()));
+        for line in ["P ", "P 0", " P", "PP", "p", "P\r", "P00"] {
+            assert_eq!(request(line.as_bytes()), None, "{line:?}");
+        }
+        let all: Vec<u8> = (0..=255).collect();
+        let digits: String = all.iter().map(|byte| format!("{byte:02x}")).collect();
+        for (line, file) in [("Q", vec![]), ("Q ", vec![]), ("Q 00", vec![0]), ("Q 0123456789", vec![1, 0x23, 0x45, 0x67, 0x89])] {
+            assert_eq!(load(line), Some(file), "{line:?}");
+        }
+        assert_eq!(load("Q abcdefABCDEFaBcD"), Some(vec![0xAB, 0xCD, 0xEF, 0xAB, 0xCD, 0xEF, 0xAB, 0xCD]));
+        assert_eq!(load(&format!("Q {digits}")), Some(all.clone()));
+        assert_eq!(load(&format!("Q {}", digits.to_uppercase())), Some(all.clone()));
+        assert_eq!(Request::Load(all).to_string(), format!("Q {digits}"));
+        assert_eq!(Request::Load(vec![]).to_string(), "Q");
+        for line in [
+            "Q 0", "Q 000", "Q 0x", "Q 0g", "Q  ", "Q  00", "Q 00 ", "Q 00 00", "Q 0 0", "Q00", "QQ 00", " Q 00", "q 00", "Q 00\r",
+            "Q\r", "Q -1", "Q 0\0", "Q ٠٠", "VQ 00", "VP",
+        ] {
+            assert_eq!(load(line), None, "{line:?}");
+        }
+    }
+
+    /// What is past the longest file is judged, and not kept.
+    #[test]
+    fn long_files() {
+        for (bytes, kept) in [(KEPT - 1, KEPT - 1), (KEPT, KEPT), (KEPT + 1, KEPT), (100_000, KEPT)] {
+            let digits = "a5".repeat(bytes);
+            assert_eq!(load(&format!("Q {digits}")), Some(vec![0xA5; kept]), "{bytes} bytes");
+            for last in ["0", "x", "0x", "x0", " ", " 00", "000"] {
+                assert_eq!(load(&format!("Q {digits}{last}")), None, "{bytes} bytes and {last:?}");
+            }
+        }
+    }
+
     #[test]
     fn zeros_before_a_number() {
         let zeros = "0".repeat(1000);
@@ -304,7 +362,7 @@ mod tests {
             assert_eq!(call(line), None, "{line}");
         }
         // names, also those of calls that are not there yet
-        for line in ["Q", "x", "w 137 1", "d", "o", "z 127 5", "b 1 2 3", "DD", "OO", "P", "Q 00", "H 1 0", "F 127", "G 127 1", "?"]
+        for line in ["X", "x", "w 137 1", "d", "o", "z 127 5", "b 1 2 3", "p", "q 00", "DD", "OO", "H 1 0", "F 127", "G 127 1", "?"]
         {
             assert_eq!(call(line), None, "{line}");
         }
@@ -313,9 +371,9 @@ mod tests {
     #[test]
     fn lines_of_one_and_two_bytes() {
         for byte in 0..=255 {
-            assert_eq!(request(&[byte]).is_some(), b"DIKO".contains(&byte), "{byte}");
+            assert_eq!(request(&[byte]).is_some(), b"DIKOPQ".contains(&byte), "{byte}");
             for second in 0..=255 {
-                assert_eq!(request(&[byte, second]).is_some(), [byte, second] == *b"VR", "{byte} {second}");
+                assert_eq!(request(&[byte, second]).is_some(), [*b"VR", *b"Q "].contains(&[byte, second]), "{byte} {second}");
             }
         }
     }
@@ -356,6 +414,9 @@ mod tests {
             b"RR",
             b"RRR",
             b"VR",
+            b"Q 1234",
+            b"Q 123",
+            b"Q 12x",
             b"T 3 1 2 3",
             &long_trace(70_000, "4294967296"),
         ] {
@@ -366,6 +427,9 @@ mod tests {
             line.take(b"W 1");
             line.take(b"37 2");
             assert_eq!(line.end(), Some(Request::Call(Call::Write(137, 2))));
+            line.take(b"Q 0");
+            line.take(b"a");
+            assert_eq!(line.end(), Some(Request::Load(vec![0x0A])));
             line.take(&long_trace(70_000, "1"));
             assert!(line.end().is_some());
         }

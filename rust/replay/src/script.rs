@@ -4,7 +4,7 @@ use crate::answers::write_answer;
 use crate::calls::Request;
 use crate::lines::Line;
 use crate::list::List;
-use crate::record;
+use crate::{checkpoint, record};
 use c51::{Board, Device, Interval};
 use std::fmt;
 use std::io::{self, BufWriter, ErrorKind, Read, Write};
@@ -47,7 +47,7 @@ pub fn replay(mut input: impl Read, output: impl Write) -> Result<(), Failure> {
 
 /// A script so far.
 struct Replay<W: Write> {
-    /// Before the first reset or put the device is the record of zeros; the 82C53 starts as its reset leaves it.
+    /// Before the first reset, load or put the device is the record of zeros; the 82C53 starts as its reset leaves it.
     board: Board,
     line: Line,
     /// The lines that have ended.
@@ -106,6 +106,14 @@ impl<W: Write> Replay<W> {
             Some(Request::Speed(call)) => {
                 self.run_list()?;
                 call.answer(&mut self.out)
+            }
+            Some(Request::Save) => {
+                self.run_list()?;
+                checkpoint::save(&self.board.device, &mut self.out)
+            }
+            Some(Request::Load(file)) => {
+                self.run_list()?;
+                checkpoint::load(&mut self.board.device, &file, &mut self.out)
             }
             Some(Request::Put(device)) => {
                 self.run_list()?;

@@ -82,6 +82,8 @@ fn each_line_is_answered_at_once() {
         ("VB 127 7\n", "0 1 0\n"),
         ("B 11059200 9600 50\n", "0 0 253 9600\n"),
         ("r 1\n", "3 0\n"),
+        ("Q 0b\n", "15 0\n"),
+        ("P\n", "1 0\n"),
     ] {
         session.send(line.as_bytes());
         assert_eq!(session.answer(), answer);
@@ -97,7 +99,7 @@ fn very_long_lines() {
     session.send(b"R 52\n");
     assert_eq!(session.answer(), "0 0\n");
     let entries = " 2130706433".repeat(MEGABYTE / 8);
-    let [zeros, letters, numbers] = ["0", "x", " 1"].map(|word| word.repeat(MEGABYTE));
+    let [zeros, letters, numbers, files] = ["0", "x", " 1", "0b"].map(|word| word.repeat(MEGABYTE));
     let parts = 24;
     for (first, part, last, answer) in [
         (format!("T {}", parts * MEGABYTE / 8), &entries, "\n", "5 0 0 0 0\n"),
@@ -108,6 +110,10 @@ fn very_long_lines() {
         ("r 136".to_string(), &letters, "\n", "? 7\n"),
         (String::new(), &letters, "\n", "? 8\n"),
         ("S".to_string(), &numbers, "\n", "? 9\n"),
+        ("Q ".to_string(), &files, "0\n", "? 10\n"),
+        ("Q ".to_string(), &files, "x0\n", "? 11\n"),
+        ("r 136".to_string(), &String::new(), "\n", "0 0\n"),
+        ("Q ".to_string(), &files, "\n", "16 0\n"),
     ] {
         session.send(first.as_bytes());
         (0..parts).for_each(|_| session.send(part.as_bytes()));

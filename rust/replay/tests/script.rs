@@ -1,4 +1,4 @@
-//! Whole scripts through the library: lines of any bytes, any cut of the reading, long lists, and what fails.
+//! Whole scripts through the library: lines of any bytes, any cut of the reading, long lists, devices that move, and what fails.
 use random::Rng;
 use replay::script::{replay, Failure};
 use std::cell::RefCell;
@@ -13,15 +13,42 @@ fn answers(script: &[u8]) -> String {
 /// The device after reset, as a dump has it.
 const RESET: &str =
     "52 0 0 0 0 0 0 0 0 0 0 0 0 0 0 0 0 0 0 0 0 0 0 0 1 0 0 0 0 0 0 0 0 0 1 1 1 1 1 1 1 0 0 0 0 0 0 0 0 0 0 0 0 0 0 0 0";
+const RESET_51: &str =
+    "51 0 0 0 0 0 0 0 0 0 0 0 0 0 0 0 0 0 0 0 0 0 0 0 1 0 0 0 0 0 0 0 0 0 1 1 1 1 1 1 1 0 0 0 0 0 0 0 0 0 0 0 0 0 0 0 0";
 const ZEROS: &str =
     "0 0 0 0 0 0 0 0 0 0 0 0 0 0 0 0 0 0 0 0 0 0 0 0 0 0 0 0 0 0 0 0 0 0 0 0 0 0 0 0 0 0 0 0 0 0 0 0 0 0 0 0 0 0 0 0 0";
 
+/// The checkpoint of kind 51 after reset, in hexadecimal: registers, hidden fields and levels, flag times.
+macro_rules! reset_file {
+    () => {
+        concat!(
+            "0b8700880089008a008b008c008d0098009900a800b800",
+            "1900000000000000000000000000000000000000000000000000000000000000000000000000000000",
+            "00000000000000000000000000000000010000000000000000000000000000000000000000000000",
+            "00000000000000000000000000000000000000000000000000000000000000000000000000000000",
+            "00000000000000000000000000000000000000000000000001000000000000000100000000000000",
+            "01000000000000000100000000000000010000000000000001000000000000000100000000000000",
+            "08000000000000000000000000000000000000000000000000000000000000000000000000",
+            "000000000000000000000000000000000000000000000000000000000000000000000000"
+        )
+    };
+}
+
 /// Every form of a line, with its answer: Timer 0 overflows in idle, its interrupt is taken, and power-down follows, in which counter 0
-/// of the 82C53 goes on, in mode 2 with a count of 257. A speed is asked for on the way, and before all else.
-const LINES: [(&str, &str); 77] = [
+/// of the 82C53 goes on, in mode 2 with a count of 257. A speed is asked for on the way, and before all else; checkpoints are saved
+/// and loaded before the first reset and after the last one.
+const LINES: [(&str, &str); 95] = [
     ("B 11059200 9600 0", "0 0 253 9600"),
     ("D", ZEROS),
     ("O", "1 0"),
+    ("P", "1 0"),
+    ("Q", "15 0"),
+    ("Q 0b87", "15 0"),
+    ("Q 0c", "16 0"),
+    ("Q 0B8710", "17 0"),
+    ("Q 0b8", "?"),
+    ("Q 0b 87", "?"),
+    ("P 0", "?"),
     ("R 52", "0 0"),
     ("D", RESET),
     ("W 137 1", "0 0"),
@@ -96,6 +123,16 @@ const LINES: [(&str, &str); 77] = [
     ("B 4608 7 10000", "0 0 254 6"),
     ("VR", "0 0"),
     ("VC 1", "0 0"),
+    ("R 51", "0 0"),
+    ("P", concat!("0 ", reset_file!())),
+    ("C 126", "0 1"),
+    (concat!("Q ", reset_file!()), "0 0"),
+    ("D", RESET_51),
+    ("C 126", "0 1"),
+    (concat!("Q ", reset_file!(), "00"), "15 0"),
+    ("D", ZEROS),
+    ("C 126", "1 0"),
+    ("Vr 0", "0 0"),
 ];
 
 fn script() -> Vec<u8> {
@@ -119,6 +156,61 @@ fn every_form_of_a_line() {
 #[test]
 fn a_refused_reset_leaves_the_record_of_zeros() {
     assert_eq!(answers(b"R 52\nR 53\nD\nR 51\nR 256\nr 136\n"), format!("0 0\n2 0\n{ZEROS}\n0 0\n? 5\n0 0\n"));
+}
+
+/// A load takes the place of the device, also of one that no call accepts, and leaves the 82C53; refused, it leaves the record of zeros,
+/// which a reset or another load ends. Digits are read in either case, and a fault leaves the device.
+#[test]
+fn loads() {
+    let file = reset_file!();
+    let capitals = file.to_uppercase();
+    let text = format!("VW 3 16\nVW 0 9\nVC 1\nQ {file}\nD\nR 53\nQ {capitals}\nD\nP\nVr 0\n");
+    let dumps = format!("0 0\n{RESET_51}\n2 0\n0 0\n{RESET_51}\n0 {file}\n0 9\n");
+    assert_eq!(answers(text.as_bytes()), format!("0 0\n0 0\n0 0\n{dumps}"));
+    let shorter = &file[..file.len() - 2];
+    let another = file.replacen("99", "9a", 1);
+    let lacking = file.replacen("b800", "b820", 1);
+    for (file, code) in [(shorter, 15), (&another, 16), (&lacking, 17), ("", 15)] {
+        let text = format!("R 52\nQ {file}\nD\nP\nC 127\nR 52\nD\n");
+        assert_eq!(answers(text.as_bytes()), format!("0 0\n{code} 0\n{ZEROS}\n1 0\n1 0\n0 0\n{RESET}\n"), "{file}");
+    }
+    for fault in [format!("Q {file}0"), format!("Q {file} "), format!("Q {file} 00"), format!("Q {shorter}0x"), "P 1".to_string()] {
+        assert_eq!(answers(format!("R 52\n{fault}\nD\n").as_bytes()), format!("0 0\n? 2\n{RESET}\n"), "{fault}");
+    }
+}
+
+/// A script that is cut anywhere, the device being saved there and loaded by another script, is answered as the whole one: Timer 1
+/// clocks a byte that is sent and one that is received. Its calls are not of the 82C53, which a checkpoint does not have.
+#[test]
+fn a_device_that_moves() {
+    let setup = ["R 52", "W 137 32", "W 141 253", "W 139 253", "W 152 80", "W 168 144", "W 136 64", "W 153 165"];
+    let frame = ["J 126 96", "J 127 200", "C 126", "J 126 95", "T 2 2130706528 2113929312", "J 126 384", "J 127 100", "Z 127 96"];
+    let served = ["J 127 60", "O", "K", "r 153", "W 152 80", "I", "L 127 5000", "J 127 900", "D"];
+    let lines = [&setup[..], &frame, &served].concat();
+    let whole = answers((lines.join("\n") + "\n").as_bytes());
+    assert!(whole.contains("\n0 35\n"), "{whole}");
+    for at in 1..lines.len() {
+        let (first, second) = lines.split_at(at);
+        let before = answers((first.join("\n") + "\nP\n").as_bytes());
+        let (before, file) = before.trim_end().rsplit_once("\n0 ").expect("a checkpoint");
+        let after = answers(format!("Q {file}\n{}\n", second.join("\n")).as_bytes());
+        let after = after.strip_prefix("0 0\n").expect("a device");
+        assert_eq!(format!("{before}\n{after}"), whole, "moved after {at} lines");
+    }
+}
+
+/// Calls of the chip before and after a save and a load run on the same device, in their order.
+#[test]
+fn checkpoints_among_lists() {
+    let text = "R 51\nC 126\nC 127\nP\nC 127\nr 138\nD\n";
+    let saved = answers(text.as_bytes());
+    let file = saved.lines().nth(3).and_then(|line| line.strip_prefix("0 ")).expect("a checkpoint");
+    let moved = format!("R 52\nJ 127 99\nQ {file}\nC 127\nr 138\nD\nP\n");
+    let answered = answers(moved.as_bytes());
+    let after: Vec<&str> = saved.lines().skip(4).collect();
+    assert_eq!(answered.lines().skip(3).take(3).collect::<Vec<&str>>(), after);
+    assert!(after[2].contains(" 3 1 1 1 1 1 1 1 "), "cycle 3: {}", after[2]);
+    assert_ne!(answered.lines().last().and_then(|line| line.strip_prefix("0 ")), Some(file), "a cycle on");
 }
 
 #[test]
@@ -225,7 +317,7 @@ fn any_bytes() {
     for number in 2..2000 {
         let length = rng.below(40);
         let mut line: Vec<u8> = (0..length).map(|_| rng.byte()).filter(|&byte| byte != b'\n').collect();
-        if matches!(line[..], [b'D' | b'I' | b'K' | b'O'] | [b'V', b'R']) {
+        if matches!(line[..], [b'D' | b'I' | b'K' | b'O' | b'P' | b'Q'] | [b'V', b'R'] | [b'Q', b' ', ..]) {
             line.clear();
         }
         script.extend(line);

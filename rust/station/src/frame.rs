@@ -57,6 +57,22 @@ pub fn frame(byte: u8, noise: Option<Noise>) -> Vec<Stretch> {
     line
 }
 
+/// The line up to so many cycles and from there on.
+pub fn cut(line: Vec<Stretch>, cycles: u64) -> (Vec<Stretch>, Vec<Stretch>) {
+    let (mut first, mut second) = (Vec::new(), Vec::new());
+    let mut left = cycles;
+    for Stretch { rxd, cycles } in line {
+        let before = cycles.min(left);
+        left -= before;
+        for (part, cycles) in [(&mut first, before), (&mut second, cycles - before)] {
+            if cycles > 0 {
+                part.push(Stretch { rxd, cycles });
+            }
+        }
+    }
+    (first, second)
+}
+
 #[cfg(test)]
 mod tests {
     use super::*;
@@ -70,6 +86,20 @@ mod tests {
         let bits: Vec<u8> = frame(0x35, None).iter().map(|stretch| stretch.rxd).collect();
         assert_eq!(bits, [0, 1, 0, 1, 0, 1, 1, 0, 0, 1]);
         assert_eq!(levels(&frame(0x35, None)).len() as u64, BIT * BITS);
+    }
+
+    /// Cut anywhere, also within noise, the line is the same.
+    #[test]
+    fn a_line_that_is_cut() {
+        for noise in [None, Some(Noise { bit: 5, sample: 0, samples: 2 }), Some(Noise { bit: 0, sample: 2, samples: 1 })] {
+            let line = frame(0x35, noise);
+            for cycles in 0..=BIT * BITS + 1 {
+                let (first, second) = cut(line.clone(), cycles);
+                assert_eq!(levels(&first).len() as u64, cycles.min(BIT * BITS));
+                assert_eq!([levels(&first), levels(&second)].concat(), levels(&line), "cut at {cycles}");
+                assert!(first.iter().chain(&second).all(|stretch| stretch.cycles > 0));
+            }
+        }
     }
 
     #[test]

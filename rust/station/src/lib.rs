@@ -6,6 +6,8 @@ pub mod options;
 pub mod reader;
 pub mod report;
 pub mod run;
+pub mod saved;
 pub mod speed;
 pub mod timing;
 pub mod vcd;
+pub mod whole;

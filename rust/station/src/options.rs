@@ -15,22 +15,36 @@ pub const USAGE: &str = "usage: station [OPTIONS]
   --csv FILE      write the table as CSV too
   --vcd FILE      write a waveform of a station around each tag, for GTKWave
   --vcd-station N its number (1); stations 1 and 2 have an 82C53
+  --save FILE --after N
+                  read N tags, save the run in the middle of a frame of the next, and end
+  --load FILE     go on from a saved run; it has its tags, gap, stations, seed and noise
   --speed CRYSTAL RATE TOLERANCE
                   alone: find SMOD and TH1 for a crystal in Hz, 1 to 40000000, a rate in bits a second, 1 to 1000000, and
                   a tolerance in hundredths of a percent, 0 to 10000; exit status 1 where there is none
   --help          print this";
 
-const MOST_STATIONS: u64 = 1000;
-const LONGEST_GAP: f64 = 1_000_000.0;
+pub const MOST_STATIONS: u64 = 1000;
+pub const LONGEST_GAP: f64 = 1_000_000.0;
 const SHORTEST_GAP: f64 = 0.0001;
+
+/// Where a run is saved, and after how many tags.
+#[derive(Clone, PartialEq, Debug)]
+pub struct Save {
+    pub file: String,
+    pub after: u64,
+}
 
 #[derive(Clone, PartialEq, Debug)]
 pub struct Options {
+    /// What is sent; of a saved run its file has it.
     pub plan: Plan,
     pub csv: Option<String>,
     pub vcd: Option<String>,
     /// The station of the waveform.
     pub vcd_station: usize,
+    pub save: Option<Save>,
+    /// The saved run to go on from.
+    pub load: Option<String>,
     /// The speed that is asked for, in place of a run.
     pub speed: Option<Wanted>,
     pub help: bool,
@@ -60,7 +74,7 @@ fn gap(value: &str) -> Result<u64, String> {
     }
 }
 
-fn tag(value: String) -> Result<String, String> {
+pub fn tag(value: String) -> Result<String, String> {
     if value.len() == DIGITS && value.bytes().all(|b| b.is_ascii_digit()) {
         Ok(value)
     } else {
@@ -71,7 +85,7 @@ fn tag(value: String) -> Result<String, String> {
 impl Options {
     pub fn parse(words: impl Iterator<Item = String>) -> Result<Options, String> {
         let plan = Plan { stations: 11, tags: 0, gap: CYCLES_A_SECOND, seed: 1, noise: 1, chosen: Vec::new() };
-        let mut options = Options { plan, csv: None, vcd: None, vcd_station: 1, speed: None, help: false };
+        let mut options = Options { plan, csv: None, vcd: None, vcd_station: 1, save: None, load: None, speed: None, help: false };
         let words: Vec<String> = words.collect();
         if let Some((before, after)) = words.iter().position(|word| word == "--speed").map(|at| (&words[..at], &words[at + 1..])) {
             if let Some(other) = before.first() {
@@ -80,15 +94,19 @@ impl Options {
             options.speed = Some(Wanted::parse(after)?);
             return Ok(options);
         }
-        let mut tags = None;
+        let (mut tags, mut save, mut after) = (None, None, None);
+        let mut of_the_plan = None;
         let mut words = words.into_iter().peekable();
         while let Some(name) = words.next() {
             if name == "--help" {
                 options.help = true;
                 continue;
             }
-            let known = ["--tags", "--gap", "--stations", "--seed", "--noise", "--tag", "--csv", "--vcd", "--vcd-station"];
-            if !known.contains(&name.as_str()) {
+            let plan = ["--tags", "--gap", "--stations", "--seed", "--noise", "--tag"];
+            let others = ["--csv", "--vcd", "--vcd-station", "--save", "--after", "--load"];
+            if plan.contains(&name.as_str()) {
+                of_the_plan = Some(name.clone());
+            } else if !others.contains(&name.as_str()) {
                 return Err(format!("unknown option '{name}'"));
             }
             let value = words.next_if(|word| !word.starts_with("--")).ok_or(format!("{name} wants a value"))?;
@@ -102,6 +120,9 @@ impl Options {
                 "--csv" => options.csv = Some(value),
                 "--vcd" => options.vcd = Some(value),
                 "--vcd-station" => options.vcd_station = number(&name, &value, 1, MOST_STATIONS)? as usize,
+                "--save" => save = Some(value),
+                "--after" => after = Some(number(&name, &value, 0, u64::MAX)?),
+                "--load" => options.load = Some(value),
                 _ => {
                     plan.chosen.push(tag(value)?);
                     while let Some(value) = words.next_if(|word| !word.starts_with("--")) {
@@ -112,10 +133,34 @@ impl Options {
         }
         let of_chosen = if options.plan.chosen.is_empty() { 33 } else { options.plan.chosen.len() as u64 };
         options.plan.tags = tags.unwrap_or(of_chosen);
-        if options.vcd_station > options.plan.stations {
-            return Err(format!("--vcd-station {} is not one of the {} stations", options.vcd_station, options.plan.stations));
+        options.save = match (save, after) {
+            (Some(file), Some(after)) => Some(Save { file, after }),
+            (None, None) => None,
+            (Some(_), None) => return Err("--save wants --after too: how many tags are read before".to_string()),
+            (None, Some(_)) => return Err("--after is used with --save".to_string()),
+        };
+        match (&options.load, of_the_plan) {
+            (Some(_), Some(name)) => return Err(format!("--load has what is sent from its file, and is not used with '{name}'")),
+            (Some(_), None) => {}
+            (None, _) => options.fit(&options.plan, 0)?,
         }
         Ok(options)
+    }
+
+    /// Whether the options are for such a plan of which so many tags are read.
+    pub fn fit(&self, plan: &Plan, read: u64) -> Result<(), String> {
+        if self.vcd_station > plan.stations {
+            return Err(format!("--vcd-station {} is not one of the {} stations", self.vcd_station, plan.stations));
+        }
+        match &self.save {
+            Some(Save { after, .. }) if *after < read => {
+                Err(format!("--after {after} is past: {read} of {} tags are read", plan.tags))
+            }
+            Some(Save { after, .. }) if *after >= plan.tags => {
+                Err(format!("--after {after} leaves none of {} tags to be saved in", plan.tags))
+            }
+            _ => Ok(()),
+        }
     }
 }
 
@@ -140,6 +185,11 @@ mod tests {
         assert_eq!(options.plan.tags, 3);
         assert_eq!(options.plan.chosen, ["123456789012345", "000000000000000", "999999999999999"]);
         assert_eq!(parse("--tag 123456789012345 --tags 7").unwrap().plan.tags, 7);
+        let options = parse("--save moved --after 32").unwrap();
+        assert_eq!((options.save, options.load), (Some(Save { file: "moved".to_string(), after: 32 }), None));
+        assert_eq!(parse("--after 0 --tags 1 --save a").unwrap().save, Some(Save { file: "a".to_string(), after: 0 }));
+        let options = parse("--load a --csv b --vcd c --vcd-station 900 --save d --after 999").unwrap();
+        assert_eq!((options.load.as_deref(), options.save.map(|save| save.after)), (Some("a"), Some(999)));
         assert!(parse("--help").unwrap().help);
         assert_eq!(parse("").unwrap().speed, None);
         let speed = parse("--speed 11059200 9600 50").unwrap().speed;
@@ -173,6 +223,17 @@ mod tests {
             ("--vcd-station 12", "--vcd-station 12 is not one of the 11 stations"),
             ("--vcd-station 2 --stations 1", "--vcd-station 2 is not one of the 1 stations"),
             ("--tag", "--tag wants a value"),
+            ("--save moved", "--save wants --after too"),
+            ("--after 3", "--after is used with --save"),
+            ("--load moved --after 3", "--after is used with --save"),
+            ("--save --after 3", "--save wants a value"),
+            ("--save moved --after x", "--after wants a whole number from 0 on, not 'x'"),
+            ("--save moved --after 33", "--after 33 leaves none of 33 tags to be saved in"),
+            ("--save moved --after 2 --tags 2", "--after 2 leaves none of 2 tags to be saved in"),
+            ("--load moved --tags 5", "--load has what is sent from its file, and is not used with '--tags'"),
+            ("--seed 5 --load moved", "--load has what is sent from its file, and is not used with '--seed'"),
+            ("--load moved --tag 123456789012345", "is not used with '--tag'"),
+            ("--load", "--load wants a value"),
             ("--frequency 12", "unknown option '--frequency'"),
             ("5", "unknown option '5'"),
             ("--speed", "--speed wants three whole numbers, CRYSTAL RATE TOLERANCE, not 0"),

@@ -36,7 +36,8 @@ pub struct Reader<C> {
     pub timing: Option<Timing>,
     /// The overflows of its timers since reset.
     pub totals: Totals,
-    received: Vec<Received>,
+    /// The bytes received since they were last taken.
+    pub received: Vec<Received>,
     /// Takes every cycle between `watch(true)` and `watch(false)`.
     pub waveform: Option<Waveform>,
     watching: bool,
@@ -49,10 +50,14 @@ impl<C: Chips> Reader<C> {
         for (address, value) in SETUP {
             chips.write(address, value);
         }
-        let (totals, received) = (Totals::default(), Vec::new());
-        let mut reader = Reader { chips, timing: None, totals, received, waveform: None, watching: false };
+        let mut reader = Reader::of(chips, None, Totals::default(), Vec::new());
         reader.sleep();
         reader
+    }
+
+    /// A station that goes on from here.
+    pub fn of(chips: C, timing: Option<Timing>, totals: Totals, received: Vec<Received>) -> Reader<C> {
+        Reader { chips, timing, totals, received, waveform: None, watching: false }
     }
 
     /// One with an 82C53.

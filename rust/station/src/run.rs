@@ -1,6 +1,6 @@
 //! A run of stations side by side: what each is sent, and what it reads.
 use crate::chips::Chips;
-use crate::frame::{frame, Noise, Stretch, BIT, BITS, SAMPLES};
+use crate::frame::{cut, frame, Noise, Stretch, BIT, BITS, SAMPLES};
 use crate::reader::{Reader, Received};
 use crate::timing::{Time, Timing, CARRIAGE_RETURN};
 use crate::vcd::Waveform;
@@ -52,11 +52,26 @@ impl Row {
     }
 }
 
+/// The digit of a tag in whose frame a run can be saved, from 0, and the cycles of the frame up to there: they end in the middle of a
+/// data bit, between two of its samples.
+const MIDDLE_DIGIT: usize = DIGITS / 2;
+const MIDDLE: u64 = BITS / 2 * BIT + BIT / 2;
+
+/// A tag that has been sent as far as the middle of a frame.
+#[derive(Clone, PartialEq, Debug)]
+pub struct UnderWay {
+    pub sent: String,
+    /// With those of the frame.
+    pub noisy_samples: u64,
+    /// The noise of the frame.
+    pub noise: Option<Noise>,
+}
+
 /// One station and the random numbers of its line.
 pub struct Station<C> {
-    number: usize,
+    pub number: usize,
     pub reader: Reader<C>,
-    rng: Rng,
+    pub rng: Rng,
 }
 
 impl<C: Chips> Station<C> {
@@ -78,24 +93,38 @@ impl<C: Chips> Station<C> {
         })
     }
 
-    /// The idle gap, and then, with a fish in the tunnel, the tag and its carriage return. Before each frame there is a pause of less
-    /// than two bits, so that every phase comes up.
+    /// The idle gap, and then, with a fish in the tunnel, the tag and its carriage return.
     pub fn read_tag(&mut self, plan: &Plan, chosen: Option<&String>) -> Row {
+        let tag = self.begin_tag(plan, chosen);
+        self.end_tag(plan, tag)
+    }
+
+    /// The gap and the first half of the tag. Before each frame there is a pause of less than two bits, so that every phase comes up.
+    pub fn begin_tag(&mut self, plan: &Plan, chosen: Option<&String>) -> UnderWay {
         let sent = chosen.cloned().unwrap_or_else(|| self.random_tag());
-        let mut noisy_samples = 0;
+        let mut tag = UnderWay { sent, noisy_samples: 0, noise: None };
         let lead = plan.gap.min(BIT);
         self.reader.watch(false);
         self.reader.hold(Stretch { rxd: 1, cycles: plan.gap - lead });
         self.reader.watch(true);
         self.reader.hold(Stretch { rxd: 1, cycles: lead });
         self.reader.fish(true);
-        for byte in sent.bytes().chain([CARRIAGE_RETURN]) {
-            self.reader.hold(Stretch { rxd: 1, cycles: self.rng.below(2 * BIT) });
-            let noise = self.noise(plan.noise);
-            noisy_samples += noise.map_or(0, |noise| noise.samples);
-            for stretch in frame(byte, noise) {
-                self.reader.hold(stretch);
-            }
+        for byte in tag.sent.clone().bytes().take(MIDDLE_DIGIT) {
+            self.pause(plan, &mut tag);
+            self.send(frame(byte, tag.noise));
+        }
+        self.pause(plan, &mut tag);
+        self.send(tag.middle_frame().0);
+        tag
+    }
+
+    /// The other half of the tag, from the middle of the frame on; gives what the station read.
+    pub fn end_tag(&mut self, plan: &Plan, mut tag: UnderWay) -> Row {
+        self.reader.watch(true);
+        self.send(tag.middle_frame().1);
+        for byte in tag.sent.clone().bytes().skip(MIDDLE_DIGIT + 1).chain([CARRIAGE_RETURN]) {
+            self.pause(plan, &mut tag);
+            self.send(frame(byte, tag.noise));
         }
         self.reader.hold(Stretch { rxd: 1, cycles: BIT });
         self.reader.fish(false);
@@ -103,10 +132,28 @@ impl<C: Chips> Station<C> {
         let (cycle, timer1_laps) = received.last().map_or((0, 0), |last| (last.cycle, last.timer1_laps));
         let woken = received.iter().filter(|r| r.woke).count();
         let bytes: Vec<u8> = received.iter().map(|r| r.byte).collect();
-        let tag = shown(&bytes);
         let time = self.reader.timing.as_mut().map(Timing::take_time);
         let last_digit = last_digit(&received);
-        Row { station: self.number, cycle, tag, sent, noisy_samples, woken, time, last_digit, timer1_laps }
+        let UnderWay { sent, noisy_samples, .. } = tag;
+        Row { station: self.number, cycle, tag: shown(&bytes), sent, noisy_samples, woken, time, last_digit, timer1_laps }
+    }
+
+    /// The pause before a frame, and the frame's noise.
+    fn pause(&mut self, plan: &Plan, tag: &mut UnderWay) {
+        self.reader.hold(Stretch { rxd: 1, cycles: self.rng.below(2 * BIT) });
+        tag.noise = self.noise(plan.noise);
+        tag.noisy_samples += tag.noise.map_or(0, |noise| noise.samples);
+    }
+
+    fn send(&mut self, line: Vec<Stretch>) {
+        line.into_iter().for_each(|stretch| self.reader.hold(stretch));
+    }
+}
+
+impl UnderWay {
+    /// The frame of the middle digit, up to its middle and from there on.
+    fn middle_frame(&self) -> (Vec<Stretch>, Vec<Stretch>) {
+        cut(frame(self.sent.as_bytes()[MIDDLE_DIGIT], self.noise), MIDDLE)
     }
 }
 
@@ -146,31 +193,80 @@ pub struct Ran {
     pub waveform: Option<Waveform>,
 }
 
-/// Runs the plan, a tag at a time over all stations. One station may draw a waveform.
-pub fn run<C: Chips>(plan: &Plan, drawn: Option<usize>, mut progress: impl FnMut(u64)) -> Ran {
-    let mut stations: Vec<Station<C>> = (1..=plan.stations).map(|number| Station::new(number, plan.seed)).collect();
-    if let Some(number) = drawn {
-        let reader = &mut stations[number - 1].reader;
+/// A run under way: a tag at a time over all stations.
+pub struct Run<C> {
+    pub plan: Plan,
+    pub stations: Vec<Station<C>>,
+    /// The tags that were read, in the order in which they were sent.
+    pub rows: Vec<Row>,
+    /// The next tag, where the run stands in the middle of it.
+    pub under_way: Option<UnderWay>,
+}
+
+impl<C: Chips> Run<C> {
+    pub fn new(plan: Plan) -> Run<C> {
+        let stations = (1..=plan.stations).map(|number| Station::new(number, plan.seed)).collect();
+        Run { plan, stations, rows: Vec::new(), under_way: None }
+    }
+
+    /// Draws a waveform of a station from here on.
+    pub fn draw(&mut self, number: usize) {
+        let reader = &mut self.stations[number - 1].reader;
         reader.waveform = Some(Waveform::new(number, reader.timing.is_some()));
     }
-    let mut rows = Vec::new();
-    for number in 0..plan.tags {
-        let chosen = (!plan.chosen.is_empty()).then(|| &plan.chosen[number as usize % plan.chosen.len()]);
-        let station = &mut stations[number as usize % plan.stations];
-        rows.push(station.read_tag(plan, chosen));
-        progress(number + 1);
+
+    /// The place of the station whose turn it is.
+    fn turn(&self) -> usize {
+        self.rows.len() % self.plan.stations
     }
-    rows.sort_by_key(|row| (row.cycle, row.station));
-    let laps = |Station { number, reader, .. }: &Station<C>| Laps {
-        station: *number,
-        timer1: reader.totals.timer1,
-        cycles: reader.chips.record().cycle,
-    };
-    Ran {
-        rows,
-        laps: stations.iter().map(laps).filter(|laps| laps.cycles > 0).collect(),
-        waveform: stations.into_iter().find_map(|station| station.reader.waveform),
+
+    /// Goes on to the middle of the next tag.
+    fn begin_tag(&mut self) -> UnderWay {
+        let (plan, number, turn) = (&self.plan, self.rows.len(), self.turn());
+        let chosen = (!plan.chosen.is_empty()).then(|| &plan.chosen[number % plan.chosen.len()]);
+        self.under_way.take().unwrap_or_else(|| self.stations[turn].begin_tag(plan, chosen))
     }
+
+    /// Reads tags until there are so many.
+    pub fn read(&mut self, tags: u64, mut progress: impl FnMut(u64)) {
+        while (self.rows.len() as u64) < tags {
+            let tag = self.begin_tag();
+            let turn = self.turn();
+            self.rows.push(self.stations[turn].end_tag(&self.plan, tag));
+            progress(self.rows.len() as u64);
+        }
+    }
+
+    /// Goes on to the middle of the next tag, and stands there. Gives the station that is reading it.
+    pub fn stop_in_a_frame(&mut self) -> &Station<C> {
+        self.under_way = Some(self.begin_tag());
+        &self.stations[self.turn()]
+    }
+
+    /// What the run has given so far.
+    pub fn end(mut self) -> Ran {
+        self.rows.sort_by_key(|row| (row.cycle, row.station));
+        let laps = |Station { number, reader, .. }: &Station<C>| Laps {
+            station: *number,
+            timer1: reader.totals.timer1,
+            cycles: reader.chips.record().cycle,
+        };
+        Ran {
+            rows: self.rows,
+            laps: self.stations.iter().map(laps).filter(|laps| laps.cycles > 0).collect(),
+            waveform: self.stations.into_iter().find_map(|station| station.reader.waveform),
+        }
+    }
+}
+
+/// Runs the plan to its end. One station may draw a waveform.
+pub fn run<C: Chips>(plan: &Plan, drawn: Option<usize>, progress: impl FnMut(u64)) -> Ran {
+    let mut run: Run<C> = Run::new(plan.clone());
+    if let Some(number) = drawn {
+        run.draw(number);
+    }
+    run.read(plan.tags, progress);
+    run.end()
 }
 
 #[cfg(test)]

@@ -21,14 +21,14 @@ pub enum Time {
 }
 
 /// What the program keeps of its 82C53.
-#[derive(Default)]
+#[derive(Clone, Copy, PartialEq, Debug, Default)]
 pub struct Timing {
     /// Whether a fish is in the tunnel, which is gate 0.
-    fish: bool,
+    pub fish: bool,
     /// Whether a tag has begun and not ended.
-    begun: bool,
+    pub begun: bool,
     /// The time of a tag that has ended, until it is asked for.
-    took: Option<u64>,
+    pub took: Option<u64>,
 }
 
 /// Writes both bytes of a count.

@@ -1,11 +1,11 @@
 -- `replay_from_reset` is `replay` from what reset gives: by the contracts of both.
-use Rattle.machine.specs.Lists.{machine}
+use Rattle.machine.specs.Lists.{started, machine}
 use borrow.Author.Needs.{needs}
 use Rattle.lists.proofs.replay_from_reset.Statement.{statement}
 use Rattle.lists.proofs.replay_from_reset.Tie as tie
 
 returns : tie.Need-returns
-unfolding machine
+unfolding started machine
 returns c = rw (c .before .before .before .before .before .reset .ensures) at (c .before .before .replay .ensures)
 
 pub replay-from-reset-spec : {M : Type 1} → statement M

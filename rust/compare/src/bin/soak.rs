@@ -1,4 +1,6 @@
-//! The soak: random lists and raw records, of both chips, and speeds, through the library and the model for as long as wanted.
+//! The soak: random lists and raw records, of both chips, with checkpoints among them, and speeds, through the library and the model for
+//! as long as wanted.
+use compare::files::Loads;
 use compare::lists::{run_list, run_record, script, styles};
 use compare::pair::{Pair, Tally};
 use compare::speeds::{compare_speed, speed_call, Outcomes};
@@ -150,14 +152,19 @@ fn main() {
         exit(1);
     }
     let Outcomes { found, none, refused } = soak.speeds;
-    let [timer0, timer1, timer2] = [0, 1, 2].map(|timer| soak.on_records.overflowed[timer] + soak.lists.overflowed[timer]);
+    let mut total = soak.on_records;
+    total += soak.lists;
+    let [timer0, timer1, timer2] = total.overflowed;
+    let Loads { passed, bad_length, bad_layout, bad_value } = total.loads;
     println!(
         "{} raw records in {} calls, {} cycles of lists in {} calls, runs with overflows of Timers 0, 1, 2: {timer0}, {timer1}, \
-         {timer2}; {} speeds ({found} found, {none} none, {refused} refused), {} s: no difference",
+         {timer2}; {} saves, loads passed and refused by 15, 16, 17: {passed}, {bad_length}, {bad_layout}, {bad_value}; {} speeds \
+         ({found} found, {none} none, {refused} refused), {} s: no difference",
         soak.records,
         soak.on_records.calls,
         soak.lists.cycles,
         soak.lists.calls,
+        total.saved,
         soak.speeds.calls(),
         soak.start.elapsed().as_secs()
     );

@@ -1,4 +1,4 @@
--- A row of any width written into a list, word by word: what lies before it and past it stays.
+-- A row of any width written into a list: what lies before it and past it stays, and two rows side by side are one.
 use Prim.Native.Nat.{ℕ, suc, _+_, _≤_}
 use mathlib.Core.Path.{_≡_, refl, sym, ap, _∙_}
 use mathlib.Core.List.{List, [], _∷_, _++_, append-assoc, append-nil}
@@ -6,12 +6,8 @@ use native.Mathlib.Nat.{add-zero}
 use native.Mathlib.Numerals.{add-one}
 use native.Mathlib.Omega.{arith}
 use lib.ListN.{length, take, drop, set, length-set}
-use lib.Seq.{take-suc-set, drop-set-lt}
-
--- the words one after the other, from a place on
-unfoldable pub put : List ℕ → ℕ → List ℕ → List ℕ
-put [] at xs = xs
-put (w ∷ row) at xs = put row (at + 1) (set xs at w)
+use lib.Seq.{take-suc-set, drop-set-lt, take-length}
+use Rattle.laws.specs.Rows.{put}
 
 pub put-length : (row : List ℕ) (at : ℕ) (xs : List ℕ) → length (put row at xs) ≡ length xs
 unfolding put
@@ -35,3 +31,20 @@ pub put-drop : (row : List ℕ) (at k : ℕ) (xs : List ℕ) → at + length row
 unfolding put
 put-drop [] at k xs h = refl
 put-drop (w ∷ row) at k xs h = put-drop row (at + 1) k (set xs at w) (omega arith) ∙ drop-set-lt k xs at w (omega arith)
+
+-- a row in two parts
+pub put-append : (row more : List ℕ) (at : ℕ) (xs : List ℕ) → put (row ++ more) at xs ≡ put more (at + length row) (put row at xs)
+unfolding put
+put-append [] more at xs = ap (λ (k : ℕ). put more k xs) (sym (add-zero at))
+put-append (w ∷ row) more at xs =
+    put-append row more (at + 1) (set xs at w)
+    ∙ ap (λ (k : ℕ). put more k (put row (at + 1) (set xs at w))) (omega arith)
+
+-- a row as long as the list takes its place
+pub put-all : (row xs : List ℕ) → length row ≡ length xs → put row 0 xs ≡ row
+put-all row xs e =
+    let ys = put row 0 xs in
+    let long : 0 + length row ≡ length ys = omega (arith, put-length row 0 xs) in
+    sym (take-length ys)
+    ∙ (ap (λ (k : ℕ). take k ys) (sym long)
+    ∙ put-take row 0 xs (omega arith))
