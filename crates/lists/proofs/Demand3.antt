@@ -13,6 +13,7 @@ use Rattle.machine.specs.declared.ReadAnswer.{ReadAnswer}
 use Rattle.machine.specs.declared.OfferAnswer.{OfferAnswer}
 use Rattle.machine.specs.declared.LookAnswer.{LookAnswer}
 use Rattle.machine.specs.Lists.{Call, Value, Reply, Played, Ran, ran, play, run, Start, started, machine, played, replyOf, replyOfRun, replyOfCycle, replyOfTake, replyOfRead, replyOfOffer, replyOfLook}
+use Rattle.c51_checkpoint.proofs.Promises.{saved-loaded}
 use Rattle.lists.specs.Demand3.{Kept, Chained, Started, AsksNothing, risesIn, offeredAfter, Tells, ToldInLists, Demand3}
 use Rattle.lists.specs.Demand3.Chained.{nothing, then}
 use Rattle.lists.proofs.Looks.{look-means, look-tells, wake-means, wake-tells}
@@ -91,6 +92,19 @@ unfolding run
 run-append [] ys d = refl
 run-append (x ∷ xs) ys d = ap (λ (rs : List Reply). play x d .reply ∷ rs) (run-append xs ys (play x d .device))
 
+run-further : (xs ys : List Call) (d : Device) → run (xs ++ ys) d .device ≡ run ys (run xs d .device) .device
+unfolding run
+run-further [] ys d = refl
+run-further (x ∷ xs) ys d = run-further xs ys (play x d .device)
+
+-- two lists, the second from where the first ends
+run-joined : (xs ys : List Call) (d mid last : Device) (earlier later : List Reply)
+    → ran earlier mid ≡ run xs d → ran later last ≡ run ys mid → ran (earlier ++ later) last ≡ run (xs ++ ys) d
+run-joined xs ys d mid last earlier later e f =
+    let g = f ∙ ap (λ (m : Ran). run ys (m .device)) e in
+    (λ i. ran (e i .replies ++ g i .replies) (g i .device))
+    ∙ (λ i. ran (sym (run-append xs ys d) i) (sym (run-further xs ys d) i))
+
 -- the first members after two equally long parts of one list
 heads : (xs us ys vs : List Reply) (a b : Reply) → length xs ≡ length us → xs ++ (a ∷ ys) ≡ us ++ (b ∷ vs) → a ≡ b
 heads [] [] ys vs a b l e = cc
@@ -130,6 +144,9 @@ demand3 =
     record {
       from-any = chained;
       from-start = λ start {a} {cs} s c. chained c ∙ ap (λ (b : Answer). run cs (b .device)) (start-is s);
+      moved = λ {before} {after} {d} {saved} {last} {earlier} {later} κ ι {code} {a} buffer filled file c sized s z same l c′.
+          run-joined before after d saved last earlier later (chained c)
+          (chained c′ ∙ ap (λ (b : Answer). run after (b .device)) (saved-loaded κ ι saved buffer filled file code a sized s z same l));
       every-list = every-list;
       asks-nothing = asks-nothing;
       looks = λ d pins n answer e p. look-means pins n d answer (e .0) p;

@@ -20,6 +20,7 @@ use Rattle.machine.specs.Cycle.{cycles}
 use Rattle.machine.specs.Calls.{rises, offersTo}
 use Rattle.machine.specs.Lists.{Call, Value, Reply, Played, Ran, ran, run, Start, machine, played, number, replyOf, replyOfRun, replyOfCycle, replyOfTake, replyOfRead, replyOfOffer, replyOfLook}
 use Rattle.calls.specs.Row.{answerWords}
+use Rattle.checkpoint.specs.Moves.{Sized}
 use Rattle.lists.specs.Script.{Script, callWords, repliesIn, Replayed}
 use Rattle.lists.specs.Spelling.{Each, Fits, Addressable, lentOf, scriptOf, Room, Spells}
 use Rattle.c51_access.proofs.reset.Reads as reset-reads
@@ -158,6 +159,13 @@ pub record Demand3 : Type 0 where
   -- bytes, and the list
   pub from-start : (start : Start) {a : Answer} {cs : List Call} {rs : List Reply} {last : Device}
       → Started start a → Chained cs (a .device) rs last → ran rs last ≡ machine start cs
+  -- a list that is cut anywhere by a move, saved on one computer and loaded on another: every reply, and the device at the end, are
+  -- those of the list without the move
+  pub moved : {before after : List Call} {d saved last : Device} {earlier later : List Reply} (κ ι : Lft) {code : ℕ} {a : Answer}
+      (buffer filled file : RefT (List ℕ)) → Chained before d earlier saved → Sized saved
+      → save-reads.Learnt (κ, tt) (saved, (buffer, tt)) code (saved, (filled, tt)) → code ≡ 0 → now file ≡ now filled
+      → load-reads.Learnt (ι, tt) (file, tt) a (file, tt) → Chained after (a .device) later last
+      → ran (earlier ++ later) last ≡ run (before ++ after) d
   -- every list makes such a chain, refused calls included
   pub every-list : (cs : List Call) (d : Device) → Chained cs d (run cs d .replies) (run cs d .device)
   pub asks-nothing : AsksNothing
