@@ -246,11 +246,23 @@ typedef struct {
     uint64_t timer2; /* up to 6 a cycle as a baud rate generator; a reload by T2EX is none; always 0 on kind 51 */
 } c51_totals;
 
-/* A jump or a trace run: the overflows in its cycles. */
+/* A trace run: the overflows in its cycles. */
 typedef struct {
     uint8_t code;
     c51_totals totals;
 } c51_run_answer;
+
+/* A jump: the overflows in its cycles, and its rounds, by which it costs. Each busy cycle is a round, and each longest run of other
+ * cycles is one, whatever its length; so there are at most 2 * busy cycles + 1. A cycle is busy where a timer overflows in it, where the
+ * send or the receive position is not 0 before or after it, also of a frame that waits on a stopped clock, and where a flag, a saved
+ * level, a due mark, seen or polled changes in it; in power-down none is. A refused jump and one of 0 cycles have 0 rounds, and a jump
+ * of a device at rest or in power-down has 1. A run of other cycles ends with the jump: two jumps may have one round more than one
+ * over the cycles of both. */
+typedef struct {
+    uint8_t code;
+    c51_totals totals;
+    uint64_t rounds;
+} c51_jump_answer;
 
 /* ---------------------------------------------------------------- calls that alter a device in place
  * The pointer is not NULL, is aligned as the type is, and nothing else reads or writes the device during the call. */
@@ -262,9 +274,9 @@ uint8_t c51_write(c51_device *device, uint8_t address, uint8_t value);
 /* One machine cycle. Refusals: 1, 4. */
 c51_line_answer c51_cycle(c51_device *device, uint8_t pins);
 
-/* n cycles, 0 to C51_MAX_CYCLES, with one pin byte. A jump costs by its rounds: one for each busy cycle (an overflow, a frame under way, a
- * flag that changes) and one for each quiet run between them; 2^40 busy cycles take about a day. Refusals: 1, 4, 5. */
-c51_run_answer c51_jump(c51_device *device, uint8_t pins, uint64_t n);
+/* n cycles, 0 to C51_MAX_CYCLES, with one pin byte. It costs by its rounds, which it answers: one for each busy cycle and one for each run
+ * of others between them (c51_jump_answer); 2^40 busy cycles take about a day. Refusals: 1, 4, 5. */
+c51_jump_answer c51_jump(c51_device *device, uint8_t pins, uint64_t n);
 
 /* Runs a trace of count entries, checked whole before it runs: the pin byte in the top 8 bits of an entry, 1 to
  * 16,777,215 cycles in the other 24. entries points to count numbers and is never NULL, even where count is 0.
@@ -318,7 +330,7 @@ c51_answer c51_load(const uint8_t *file, size_t length);
 /* ---------------------------------------------------------------- a whole list of calls at once */
 
 #define C51_CALL_WORDS 3    /* a call: its number, and two arguments */
-#define C51_ANSWER_WORDS 5  /* an answer: its code, how many numbers it gives or C51_NONE, and the numbers, 0 past those given */
+#define C51_ANSWER_WORDS 6  /* an answer: its code, how many numbers it gives or C51_NONE, and four numbers, 0 past those given */
 #define C51_NONE UINT64_MAX /* an offer, a look ahead or a wake look that passed and found none */
 
 /* The calls by number, each with its arguments and with the numbers that it gives, where it gives any. Of a kind, an
@@ -328,9 +340,9 @@ enum {
     C51_CALL_READ = 1,   /* address; gives the register */
     C51_CALL_WRITE = 2,  /* address, value */
     C51_CALL_CYCLE = 3,  /* pins; gives the output line */
-    C51_CALL_JUMP = 4,   /* pins, n; gives three, the totals of Timers 0, 1 and 2 */
+    C51_CALL_JUMP = 4,   /* pins, n; gives four, the totals of Timers 0, 1 and 2, and the rounds */
     C51_CALL_TRACE = 5,  /* start, end: entries[start] to entries[end - 1], none where these are not in order or not in range;
-                          * gives three, as a jump does */
+                          * gives three, the totals */
     C51_CALL_LOOK = 6,   /* pins, n; gives the cycle, or C51_NONE */
     C51_CALL_OFFER = 7,  /* gives the vector, or C51_NONE */
     C51_CALL_TAKE = 8,   /* gives the vector */
@@ -448,11 +460,12 @@ typedef struct {
     uint8_t outputs;
 } c51_board_answer;
 
-/* A jump of the board: the outputs as it leaves them, and the overflows in its cycles. */
+/* A jump of the board: the outputs as it leaves them, and the chip's overflows and rounds, which pulses add nothing to. */
 typedef struct {
     uint8_t code;
     uint8_t outputs;
     c51_totals totals;
+    uint64_t rounds;
 } c51_board_jump_answer;
 
 /* ---------------------------------------------------------------- calls of the 82C53; a pointer is as for the calls in place */

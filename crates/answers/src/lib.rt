@@ -6,6 +6,7 @@ ghost use Rattle.machine.specs.Calls as Machine;
 use machine::Answer;
 use machine::CycleAnswer;
 use machine::Device;
+use machine::JumpAnswer;
 use machine::RunAnswer;
 use machine::TakeAnswer;
 use machine::Totals;
@@ -44,7 +45,7 @@ pub fn passed(d: Device) -> Answer
     }
 }
 
-// The same of a cycle, of a jump and a trace run, and of a take.
+// The same of a cycle, of a jump, of a trace run, and of a take.
 pub fn refuse_cycle(code: u8, d: Device) -> CycleAnswer
     ensures { λ r. ⌜ r ≡ Machine.refuseCycle code d ⌝ }
 {
@@ -62,6 +63,28 @@ pub fn passed_cycle(d: Device) -> CycleAnswer
     CycleAnswer {
         code: PASSED,
         line: serial::line_of(d.serial),
+        device: d,
+    }
+}
+
+pub fn refuse_jump(code: u8, d: Device) -> JumpAnswer
+    ensures { λ r. ⌜ r ≡ Machine.refuseJump code d ⌝ }
+{
+    JumpAnswer {
+        code: code,
+        totals: totals::none(),
+        rounds: 0,
+        device: d,
+    }
+}
+
+pub fn passed_jump(t: Totals, rounds: u64, d: Device) -> JumpAnswer
+    ensures { λ r. ⌜ r ≡ Machine.passedJump t rounds d ⌝ }
+{
+    JumpAnswer {
+        code: PASSED,
+        totals: t,
+        rounds: rounds,
         device: d,
     }
 }

@@ -3,7 +3,7 @@ use Prim.Native.Nat.{ℕ}
 use mathlib.Core.Path.{_≡_, refl}
 use mathlib.Core.Bool.{cond}
 use mathlib.Core.List.{List, [], _∷_}
-use Rattle.machine.specs.Replies.{sameNumbers}
+use Rattle.machine.specs.Same.{same}
 use Rattle.baud.specs.declared.SpeedAnswer.{SpeedAnswer}
 use Rattle.baud.specs.declared.SpeedAnswer.the-variants.{Refused, Found, Nothing}
 use Rattle.baud.specs.Speed.{allowed, rateOf, atMost, away, within, asNear, pairAt, every, fits, cutDown, firstFrom, search, speed}
@@ -66,11 +66,11 @@ numbersOf Nothing = []
 failing : List Row → List ℕ
 failing [] = []
 failing (r ∷ rs) =
-    cond (sameNumbers (numbersOf (speed (r .crystal) (r .rate) (r .tolerance))) (numbersOf (r .answer)))
+    cond (same (numbersOf (speed (r .crystal) (r .rate) (r .tolerance))) (numbersOf (r .answer)))
     (failing rs)
     (r .card ∷ failing rs)
 
 -- no row fails
 cards-hold : failing cards ≡ []
-unfolding cards failing sameNumbers allowed rateOf atMost away within asNear pairAt every fits cutDown firstFrom search speed
+unfolding cards failing same allowed rateOf atMost away within asNear pairAt every fits cutDown firstFrom search speed
 cards-hold = refl

@@ -1,15 +1,18 @@
 -- The board's answers from those of its chips: by cases of what each chip refuses, and n cycles of the board by induction.
 use mathlib.Core.Path.{_≡_, refl, ap}
-use mathlib.Core.Bool.{cond}
+use mathlib.Core.Bool.{Bool, cond}
+use mathlib.Core.List.{List, _∷_}
 use Prim.Native.Nat.{ℕ, zero, suc}
 use lib.Dec.{eqb, leb}
 use Rattle.machine.specs.declared.CycleAnswer.{CycleAnswer}
-use Rattle.machine.specs.declared.RunAnswer.{RunAnswer}
+use Rattle.machine.specs.declared.JumpAnswer.{JumpAnswer}
 use Rattle.machine.specs.Record.{pinsOk}
 use Rattle.machine.specs.Record as Device
 use Rattle.machine.specs.Cycle as Chip
 use Rattle.machine.specs.Totals.{added, totalsNext}
 use Rattle.machine.specs.Totals as Chip″
+use Rattle.machine.specs.Rounds.{busy, roundsOf}
+use Rattle.machine.specs.Rounds as Rounds
 use Rattle.machine.specs.Calls.{longest, cyclesFault}
 use Rattle.machine.specs.Calls as Chip′
 use Rattle.machine.proofs.Choices.{by-test}
@@ -21,7 +24,7 @@ use Rattle.interval.specs.Calls as Interval′
 use Rattle.board.specs.declared.Board.{Board}
 use Rattle.board.specs.declared.BoardCycleAnswer.{BoardCycleAnswer}
 use Rattle.board.specs.declared.BoardJumpAnswer.{BoardJumpAnswer}
-use Rattle.board.specs.Board.{accepted, cycle, cycles, totals, refuseCycle, cycleAnswer, refuseJump, jumpAnswer}
+use Rattle.board.specs.Board.{accepted, cycle, cycles, totals, marks, rounds, refuseCycle, cycleAnswer, refuseJump, jumpAnswer}
 use Rattle.board.specs.Joined.{lower}
 
 -- n cycles of the board are n of the chip and n pulses
@@ -36,6 +39,16 @@ totals-each : (n pins gates : ℕ) (b : Board) → totals n pins gates b ≡ Chi
 unfolding totals cycle Chip″.totals
 totals-each zero pins gates b = refl
 totals-each (suc n) pins gates b = ap (added (totalsNext pins (b .device))) (totals-each n pins gates (cycle pins gates b))
+
+-- and their rounds
+marks-each : (n pins gates : ℕ) (b : Board) → marks n pins gates b ≡ Rounds.marks n pins (b .device)
+unfolding marks cycle Rounds.marks
+marks-each zero pins gates b = refl
+marks-each (suc n) pins gates b = ap (λ (ms : List Bool). busy pins (b .device) ∷ ms) (marks-each n pins gates (cycle pins gates b))
+
+rounds-each : (n pins gates : ℕ) (b : Board) → rounds n pins gates b ≡ Rounds.rounds n pins (b .device)
+unfolding rounds Rounds.rounds
+rounds-each n pins gates b = ap (λ (ms : List Bool). roundsOf ms) (marks-each n pins gates b)
 
 module _ (b : Board) (pins gates : ℕ) where
   -- what a cycle gives of both chips
@@ -60,11 +73,11 @@ module _ (b : Board) (pins gates : ℕ) where
       (λ i. simp (d, i)))
 
   module _ (n : ℕ) where
-    abbrev bothJumped : RunAnswer → PulseAnswer → BoardJumpAnswer
-    bothJumped x y = record { code = 0; outputs = y .outputs; totals = x .totals; board = record { device = x .device; interval = y .interval } }
+    abbrev bothJumped : JumpAnswer → PulseAnswer → BoardJumpAnswer
+    bothJumped x y = record { code = 0; outputs = y .outputs; totals = x .totals; rounds = x .rounds; board = record { device = x .device; interval = y .interval } }
 
     -- refused by the 82C53, and then by the lower number of it and of a jump of no cycles; or by the chip; or both
-    abbrev joinedJump : PulseAnswer → RunAnswer → RunAnswer → BoardJumpAnswer
+    abbrev joinedJump : PulseAnswer → JumpAnswer → JumpAnswer → BoardJumpAnswer
     joinedJump y judged x =
         cond (eqb (y .code) 0) (cond (eqb (x .code) 0) (bothJumped x y) (refuseJump (x .code) b)) (refuseJump (lower (judged .code) (y .code)) b)
 
@@ -76,7 +89,7 @@ module _ (b : Board) (pins gates : ℕ) where
         (λ d. by-test (Interval.accepted (b .interval))
         (λ i. by-test (pinsOk pins)
         (λ p. by-test (gatesOk gates)
-        (λ g. by-test (leb n longest) (λ l. simp (d, i, p, g, l, cycles-each n pins gates b, totals-each n pins gates b)) (λ l. simp (d, i, p, g, l)))
+        (λ g. by-test (leb n longest) (λ l. simp (d, i, p, g, l, cycles-each n pins gates b, totals-each n pins gates b, rounds-each n pins gates b)) (λ l. simp (d, i, p, g, l)))
         (λ g. simp (d, i, p, g)))
         (λ p. by-test (gatesOk gates)
         (λ g. by-test (leb n longest) (λ l. simp (d, i, p, g, l)) (λ l. simp (d, i, p, g, l)))

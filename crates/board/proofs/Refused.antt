@@ -16,7 +16,7 @@ module _ (b : Board) (pins gates : ℕ) where
   SameCycle a = (a .code ≡ 0 → ⊥) → (a .line ≡ 0) × ((a .outputs ≡ 0) × (a .board ≡ b))
 
   abbrev SameJump : BoardJumpAnswer → Type 0
-  SameJump a = (a .code ≡ 0 → ⊥) → (a .outputs ≡ 0) × ((a .totals ≡ noTotals) × (a .board ≡ b))
+  SameJump a = (a .code ≡ 0 → ⊥) → (a .outputs ≡ 0) × ((a .totals ≡ noTotals) × ((a .rounds ≡ 0) × (a .board ≡ b)))
 
   pub cycle-refused : SameCycle (cycleAnswer b pins gates)
   unfolding cycleAnswer
@@ -30,6 +30,6 @@ module _ (b : Board) (pins gates : ℕ) where
   jump-refused n =
       chosen SameJump (accepted b) _ _
       (chosen SameJump (bytesOk pins gates) _ _
-      (chosen SameJump (leb n longest) _ _ (λ n. absurd (n refl)) (λ _. (refl, (refl, refl))))
-      (λ _. (refl, (refl, refl))))
-      (λ _. (refl, (refl, refl)))
+      (chosen SameJump (leb n longest) _ _ (λ n. absurd (n refl)) (λ _. (refl, (refl, (refl, refl)))))
+      (λ _. (refl, (refl, (refl, refl)))))
+      (λ _. (refl, (refl, (refl, refl))))

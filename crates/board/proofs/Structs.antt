@@ -1,6 +1,9 @@
--- The board as a struct that is lent, and where the answers of its calls have it, their bytes and their totals.
+-- The board as a struct that is lent, and where the answers of its calls have it, their bytes, their totals and their rounds.
 use mathlib.Core.Path.{refl}
 use mathlib.Core.List.{[], _∷_}
+use Prim.Native.Nat.{_^_, _<_}
+use mir.Syntax.{tyInt, w64}
+use mir.Val.{vint}
 use denote.Laws.{Is}
 use denote.Struct.Declared.{row}
 use Rattle.board.proofs.Board as Board
@@ -19,8 +22,8 @@ board = record { type = Board.the-type; laws = Board′.the-laws; plains = Board
 abbrev pub cycle-carries : Carries board CycleAnswer.the-type CycleAnswer′.the-laws 3
 cycle-carries = record { struct = λ r. r .board; offset = 8; found = refl; held = λ r. refl; owns = λ r known. known .1 .1 .1 .0 }
 
-abbrev pub jump-carries : Carries board JumpAnswer.the-type JumpAnswer′.the-laws 3
-jump-carries = record { struct = λ r. r .board; offset = 32; found = refl; held = λ r. refl; owns = λ r known. known .1 .1 .1 .0 }
+abbrev pub jump-carries : Carries board JumpAnswer.the-type JumpAnswer′.the-laws 4
+jump-carries = record { struct = λ r. r .board; offset = 40; found = refl; held = λ r. refl; owns = λ r known. known .1 .1 .1 .1 .0 }
 
 abbrev pub cycle-code : Byte CycleAnswer.the-type CycleAnswer′.the-laws 0
 cycle-code = record { byte = λ r. r .code; offset = 0; found = refl; held = λ r. refl; fits = λ r known. known .0 .1 }
@@ -46,4 +49,15 @@ jump-totals = record {
   held = λ r. refl;
   Fits = λ r. Is (row Totals.the-type) (r .totals) (value totals (r .totals) ∷ []);
   fits = λ r known. known .1 .1 .0;
+}
+
+abbrev pub jump-rounds : Piece JumpAnswer.the-type JumpAnswer′.the-laws 3
+jump-rounds = record {
+  ty = tyInt w64;
+  val = λ r. vint w64 (r .rounds);
+  offset = 32;
+  found = refl;
+  held = λ r. refl;
+  Fits = λ r. r .rounds < 2 ^ 64;
+  fits = λ r known. known .1 .1 .1 .0 .1;
 }

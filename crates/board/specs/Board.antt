@@ -1,14 +1,17 @@
 -- Document 02, request Three, the board that has both chips: the 82C53 is clocked once a machine cycle. A jump ends as pulse by pulse does;
--- request Seven: it answers the chip's overflow totals. Refused by 1 for either record, then by 4 for the pin byte or the gate byte, then
--- by 5; a refusal leaves both chips as given. Power-down stops the chip, whose cycle then leaves it as it is, and not the 82C53.
+-- request Seven: it answers the chip's overflow totals; request Nine: and its rounds, pulses making no cycle busy. Refused by 1 for
+-- either record, then by 4 for the pin byte or the gate byte, then by 5; a refusal leaves both chips as given. Power-down stops the chip,
+-- whose cycle then leaves it as it is, and not the 82C53.
 use Prim.Native.Nat.{ℕ, zero, suc}
 use mathlib.Core.Bool.{Bool, _&&_}
+use mathlib.Core.List.{List, [], _∷_}
 use lib.Dec.{leb}
 use Rattle.machine.specs.Record.{pinsOk}
 use Rattle.machine.specs.Record as Device
 use Rattle.machine.specs.Serial.{lineOf}
 use Rattle.machine.specs.Cycle.{cycleOf}
 use Rattle.machine.specs.Totals.{noTotals, added, totalsNext}
+use Rattle.machine.specs.Rounds.{busy, roundsOf}
 use Rattle.machine.specs.Calls.{unless, longest}
 use Rattle.machine.specs.declared.Totals.{Totals}
 use Rattle.interval.specs.Interval.{outputs, gatesOk, pulseAll}
@@ -39,6 +42,14 @@ unfoldable pub totals : ℕ → ℕ → ℕ → Board → Totals
 totals zero pins gates b = noTotals
 totals (suc n) pins gates b = added (totalsNext pins (b .device)) (totals n pins gates (cycle pins gates b))
 
+-- which of them are busy for the chip, and the rounds
+unfoldable pub marks : ℕ → ℕ → ℕ → Board → List Bool
+marks zero pins gates b = []
+marks (suc n) pins gates b = busy pins (b .device) ∷ marks n pins gates (cycle pins gates b)
+
+unfoldable pub rounds : ℕ → ℕ → ℕ → Board → ℕ
+rounds n pins gates b = roundsOf (marks n pins gates b)
+
 -- Cycle: it answers the line and the outputs as it leaves them
 abbrev pub refuseCycle : ℕ → Board → BoardCycleAnswer
 refuseCycle n b = record { code = n; line = 0; outputs = 0; board = b }
@@ -52,16 +63,16 @@ cycleAnswer b pins gates =
     (unless (bytesOk pins gates) (refuseCycle 4 b)
     (passedCycle (cycle pins gates b)))
 
--- Jump: n cycles of the board; it answers the overflow totals and the outputs
+-- Jump: n cycles of the board; it answers the overflow totals, the rounds and the outputs
 abbrev pub refuseJump : ℕ → Board → BoardJumpAnswer
-refuseJump n b = record { code = n; outputs = 0; totals = noTotals; board = b }
+refuseJump n b = record { code = n; outputs = 0; totals = noTotals; rounds = 0; board = b }
 
-abbrev pub passedJump : Totals → Board → BoardJumpAnswer
-passedJump t b = record { code = 0; outputs = outputs (b .interval); totals = t; board = b }
+abbrev pub passedJump : Totals → ℕ → Board → BoardJumpAnswer
+passedJump t rounds b = record { code = 0; outputs = outputs (b .interval); totals = t; rounds = rounds; board = b }
 
 unfoldable pub jumpAnswer : Board → ℕ → ℕ → ℕ → BoardJumpAnswer
 jumpAnswer b pins gates n =
     unless (accepted b) (refuseJump 1 b)
     (unless (bytesOk pins gates) (refuseJump 4 b)
     (unless (leb n longest) (refuseJump 5 b)
-    (passedJump (totals n pins gates b) (cycles n pins gates b))))
+    (passedJump (totals n pins gates b) (rounds n pins gates b) (cycles n pins gates b))))

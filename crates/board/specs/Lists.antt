@@ -1,7 +1,7 @@
 -- Document 02, request Three: a list of calls on the board, of either chip or of both, the answers to it and both chips at its end.
 use Prim.Native.Nat.{ℕ}
 use mathlib.Core.List.{List, [], _∷_, _++_}
-use Rattle.machine.specs.Lists.{Reply, says, listed}
+use Rattle.machine.specs.Lists.{Reply, says, listedWith}
 use Rattle.machine.specs.Lists.Value.{numbers}
 use Rattle.machine.specs.Lists as Chip
 use Rattle.interval.specs.Interval.{resetOf}
@@ -29,7 +29,7 @@ abbrev pub replyOfCycle : BoardCycleAnswer → Reply
 replyOfCycle a = says (a .code) (numbers (a .line ∷ a .outputs ∷ []))
 
 abbrev pub replyOfJump : BoardJumpAnswer → Reply
-replyOfJump a = says (a .code) (numbers (listed (a .totals) ++ a .outputs ∷ []))
+replyOfJump a = says (a .code) (numbers (listedWith (a .totals) (a .rounds) ++ a .outputs ∷ []))
 
 -- one call: a chip's own calls leave the other chip as it is
 unfoldable pub play : Call → Board → Played Board

@@ -23,11 +23,13 @@ pub struct BoardCycleAnswer {
     pub board: Board,
 }
 
-// The answer of a jump: 0, the outputs of the 82C53 and the chip's overflow totals, or the refusal's number and zeros; and the board.
+// The answer of a jump: 0, the outputs of the 82C53, the chip's overflow totals and its rounds, or the refusal's number and zeros; and the
+// board.
 pub struct BoardJumpAnswer {
     pub code: u8,
     pub outputs: u8,
     pub totals: Totals,
+    pub rounds: u64,
     pub board: Board,
 }
 
@@ -50,6 +52,7 @@ fn refuse_jump(code: u8, b: Board) -> BoardJumpAnswer
         code: code,
         outputs: 0,
         totals: totals::none(),
+        rounds: 0,
         board: b,
     }
 }
@@ -115,6 +118,7 @@ pub fn jump(b: Board, pins: u8, gates: u8, n: u64) -> BoardJumpAnswer
         code: PASSED,
         outputs: pulsed.outputs,
         totals: totals,
+        rounds: jumped.rounds,
         board: Board {
             device: jumped_device,
             interval: pulsed_interval,

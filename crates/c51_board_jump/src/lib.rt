@@ -5,18 +5,19 @@ ghost use Rattle.board.specs.Board as Both;
 use board::Board;
 use machine::Totals;
 
-// The code of a board's jump, the outputs of the 82C53, and the chip's overflow totals.
+// The code of a board's jump, the outputs of the 82C53, the chip's overflow totals, and its rounds.
 #[repr(C)]
 pub struct BoardJumped {
     pub code: u8,
     pub outputs: u8,
     pub totals: Totals,
+    pub rounds: u64,
 }
 
 // n cycles of the chip and n pulses of the 82C53: 1, 4, 5.
 #[no_mangle]
 pub extern "C" fn c51_board_jump(b: &mut Board, pins: u8, gates: u8, n: u64) -> BoardJumped
-    ensures { λ r. ⌜ (r .code ≡ Both.jumpAnswer (now (b .entry)) pins gates n .code) × ((r .outputs ≡ Both.jumpAnswer (now (b .entry)) pins gates n .outputs) × ((r .totals ≡ Both.jumpAnswer (now (b .entry)) pins gates n .totals) × (now (b .exit) ≡ Both.jumpAnswer (now (b .entry)) pins gates n .board))) ⌝ }
+    ensures { λ r. ⌜ (r .code ≡ Both.jumpAnswer (now (b .entry)) pins gates n .code) × ((r .outputs ≡ Both.jumpAnswer (now (b .entry)) pins gates n .outputs) × ((r .totals ≡ Both.jumpAnswer (now (b .entry)) pins gates n .totals) × ((r .rounds ≡ Both.jumpAnswer (now (b .entry)) pins gates n .rounds) × (now (b .exit) ≡ Both.jumpAnswer (now (b .entry)) pins gates n .board)))) ⌝ }
 {
     let moved = board::jump(*b, pins, gates, n);
     *b = moved.board;
@@ -24,5 +25,6 @@ pub extern "C" fn c51_board_jump(b: &mut Board, pins: u8, gates: u8, n: u64) -> 
         code: moved.code,
         outputs: moved.outputs,
         totals: moved.totals,
+        rounds: moved.rounds,
     }
 }

@@ -4,13 +4,16 @@ ghost use mathlib.Core.Path.{_≡_};
 ghost use Rattle.machine.specs.Calls as Machine;
 ghost use Rattle.machine.specs.Lists.{Call, play, replyOfLook};
 use answers::passed_cycle;
+use answers::passed_jump;
 use answers::passed_run;
 use answers::pins_ok;
 use answers::refuse_cycle;
+use answers::refuse_jump;
 use answers::refuse_run;
 use cycle::Run;
 use machine::CycleAnswer;
 use machine::Device;
+use machine::JumpAnswer;
 use machine::LONGEST;
 use machine::LookAnswer;
 use machine::RunAnswer;
@@ -56,20 +59,20 @@ fn cycles_fault(d: Device, pins: u8, n: u64) -> u8
     PASSED
 }
 
-// A jump of n cycles with one pin byte, and the overflows in them.
-pub fn jump(d: Device, pins: u8, n: u64) -> RunAnswer
+// A jump of n cycles with one pin byte, the overflows in them, and the rounds that they took.
+pub fn jump(d: Device, pins: u8, n: u64) -> JumpAnswer
     ensures { λ r. ⌜ r ≡ Machine.jumpAnswer d pins n ⌝ }
 {
     let bad = cycles_fault(d, pins, n);
     if bad != PASSED {
-        return refuse_run(bad, d);
+        return refuse_jump(bad, d);
     }
     let from = Run {
         totals: totals::none(),
         device: d,
     };
     let r = jump::advance(from, cycle::pins_of(d.kind, pins), n);
-    passed_run(r.totals, r.device)
+    passed_jump(r.run.totals, r.rounds, r.run.device)
 }
 
 // A trace run, each entry a pin byte on top and cycles in the low 24 bits; the entries are judged whole, in an order of their own.

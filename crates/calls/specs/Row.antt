@@ -6,13 +6,14 @@ use lib.ListN.{length, take, drop}
 use lib.Dec.{leb, eqb}
 use Rattle.machine.specs.declared.Device.{Device}
 use Rattle.machine.specs.declared.Answer.{Answer}
+use Rattle.machine.specs.declared.JumpAnswer.{JumpAnswer}
 use Rattle.machine.specs.declared.RunAnswer.{RunAnswer}
 use Rattle.machine.specs.declared.CycleAnswer.{CycleAnswer}
 use Rattle.machine.specs.declared.TakeAnswer.{TakeAnswer}
 use Rattle.machine.specs.declared.ReadAnswer.{ReadAnswer}
 use Rattle.machine.specs.declared.OfferAnswer.{OfferAnswer}
 use Rattle.machine.specs.declared.LookAnswer.{LookAnswer}
-use Rattle.machine.specs.Lists.{Call, Value, Reply, Played, played, replyOf, replyOfRun, replyOfCycle, replyOfTake, replyOfRead, replyOfOffer, replyOfLook}
+use Rattle.machine.specs.Lists.{Call, Value, Reply, Played, played, replyOf, replyOfJump, replyOfRun, replyOfCycle, replyOfTake, replyOfRead, replyOfOffer, replyOfLook}
 use Rattle.machine.specs.Lists.Value.{numbers, none}
 use Rattle.calls.specs.declared.Shown.{Shown}
 
@@ -79,10 +80,10 @@ callOf op first second lent =
 
 -- the numbers that an answer has room for, and its words: its code, how many numbers it gives or the mark of none, and the numbers
 abbrev pub mostNumbers : ℕ
-mostNumbers = 3
+mostNumbers = 4
 
 abbrev pub answerWords : ℕ
-answerWords = 5
+answerWords = 6
 
 abbrev pub noneMark : ℕ
 noneMark = 2 ^ 64 - 1
@@ -111,6 +112,9 @@ shown p = record { row = rowOf (p .reply); device = p .device }
 
 abbrev pub shownPlain : Answer → Shown
 shownPlain a = shown (played (replyOf a) (a .device))
+
+abbrev pub shownJump : JumpAnswer → Shown
+shownJump a = shown (played (replyOfJump a) (a .device))
 
 abbrev pub shownRun : RunAnswer → Shown
 shownRun a = shown (played (replyOfRun a) (a .device))

@@ -2,10 +2,11 @@
 // one place that tells calls by their numbers; specs/Row.antt says what a row spells.
 ghost use mathlib.Core.Path.{_≡_};
 ghost use Rattle.machine.specs.Lists.{play};
-ghost use Rattle.calls.specs.Row.{partOf, byteIn, callOf, shown, shownPlain, shownRun, shownCycle, shownTake, shownRead, shownOffer, shownLook};
+ghost use Rattle.calls.specs.Row.{partOf, byteIn, callOf, shown, shownPlain, shownJump, shownRun, shownCycle, shownTake, shownRead, shownOffer, shownLook};
 use machine::Answer;
 use machine::CycleAnswer;
 use machine::Device;
+use machine::JumpAnswer;
 use machine::LookAnswer;
 use machine::OfferAnswer;
 use machine::ReadAnswer;
@@ -13,7 +14,7 @@ use machine::RunAnswer;
 use machine::TakeAnswer;
 
 // The words of an answer: its code, how many numbers it gives or NONE, and the numbers, 0 past them.
-pub const ANSWER_WORDS: usize = 5;
+pub const ANSWER_WORDS: usize = 6;
 
 // The mark of an answer that says none.
 pub const NONE: u64 = 0xffff_ffff_ffff_ffff;
@@ -51,12 +52,23 @@ fn shown_plain(a: Answer) -> Shown
 {
     let e = a.device;
     Shown {
-        row: [a.code as u64, 0, 0, 0, 0],
+        row: [a.code as u64, 0, 0, 0, 0, 0],
         device: e,
     }
 }
 
-// A jump or a trace run, which answers three numbers.
+// A jump, which answers four numbers, and a trace run, which answers three.
+fn shown_jump(a: JumpAnswer) -> Shown
+    ensures { λ r. ⌜ r ≡ shownJump a ⌝ }
+{
+    let e = a.device;
+    let t = a.totals;
+    Shown {
+        row: [a.code as u64, 4, t.timer0, t.timer1, t.timer2, a.rounds],
+        device: e,
+    }
+}
+
 fn shown_run(a: RunAnswer) -> Shown
     ensures { λ r. ⌜ r ≡ shownRun a ⌝ }
 {
@@ -68,6 +80,7 @@ fn shown_run(a: RunAnswer) -> Shown
             a.totals.timer0,
             a.totals.timer1,
             a.totals.timer2,
+            0,
         ],
         device: e,
     }
@@ -79,7 +92,7 @@ fn shown_cycle(a: CycleAnswer) -> Shown
 {
     let e = a.device;
     Shown {
-        row: [a.code as u64, 1, a.line as u64, 0, 0],
+        row: [a.code as u64, 1, a.line as u64, 0, 0, 0],
         device: e,
     }
 }
@@ -89,7 +102,7 @@ fn shown_take(a: TakeAnswer) -> Shown
 {
     let e = a.device;
     Shown {
-        row: [a.code as u64, 1, a.vector as u64, 0, 0],
+        row: [a.code as u64, 1, a.vector as u64, 0, 0, 0],
         device: e,
     }
 }
@@ -100,11 +113,11 @@ fn shown_read(a: ReadAnswer, d: Device) -> Shown
 {
     match a {
         ReadAnswer::Refused(k) => Shown {
-            row: [k as u64, 1, 0, 0, 0],
+            row: [k as u64, 1, 0, 0, 0, 0],
             device: d,
         },
         ReadAnswer::Value(v) => Shown {
-            row: [0, 1, v as u64, 0, 0],
+            row: [0, 1, v as u64, 0, 0, 0],
             device: d,
         },
     }
@@ -115,15 +128,15 @@ fn shown_offer(a: OfferAnswer, d: Device) -> Shown
 {
     match a {
         OfferAnswer::Refused(k) => Shown {
-            row: [k as u64, 1, 0, 0, 0],
+            row: [k as u64, 1, 0, 0, 0, 0],
             device: d,
         },
         OfferAnswer::Vector(v) => Shown {
-            row: [0, 1, v as u64, 0, 0],
+            row: [0, 1, v as u64, 0, 0, 0],
             device: d,
         },
         OfferAnswer::Nothing => Shown {
-            row: [0, NONE, 0, 0, 0],
+            row: [0, NONE, 0, 0, 0, 0],
             device: d,
         },
     }
@@ -134,15 +147,15 @@ fn shown_look(a: LookAnswer, d: Device) -> Shown
 {
     match a {
         LookAnswer::Refused(k) => Shown {
-            row: [k as u64, 1, 0, 0, 0],
+            row: [k as u64, 1, 0, 0, 0, 0],
             device: d,
         },
         LookAnswer::At(k) => Shown {
-            row: [0, 1, k, 0, 0],
+            row: [0, 1, k, 0, 0, 0],
             device: d,
         },
         LookAnswer::Nothing => Shown {
-            row: [0, NONE, 0, 0, 0],
+            row: [0, NONE, 0, 0, 0, 0],
             device: d,
         },
     }
@@ -181,7 +194,7 @@ pub fn play_one(d: Device, op: u64, first: u64, second: u64, lent: &[u32]) -> Sh
         READ => shown_read(c51_access::read(d, byte_in(first)), d),
         WRITE => shown_plain(c51_access::write(d, byte_in(first), byte_in(second))),
         CYCLE => shown_cycle(c51_run::cycle(d, byte_in(first))),
-        JUMP => shown_run(c51_run::jump(d, byte_in(first), second)),
+        JUMP => shown_jump(c51_run::jump(d, byte_in(first), second)),
         TRACE => shown_run(c51_run::trace(d, part(lent, first, second))),
         LOOK => shown_look(c51_run::look(d, byte_in(first), second), d),
         OFFER => shown_offer(c51_interrupt::offer(d), d),

@@ -5,7 +5,8 @@ use mathlib.Core.Bool.{cond}
 use mathlib.Core.List.{List, [], _∷_, map}
 use Rattle.machine.specs.Calls.{longest}
 use Rattle.machine.specs.Lists.{Reply, says, nothing, number}
-use Rattle.machine.specs.Replies.{sameNumbers, sameValue, sameReply, sameReplies}
+use Rattle.machine.specs.Same.{same}
+use Rattle.machine.specs.Replies.{sameValue, sameReply, sameReplies}
 use Rattle.interval.specs.Count.{most, oneBelow, digitsOk, decimal, decades, numberOf, shownAs}
 use Rattle.interval.specs.Counter.{fresh, reads, latchNow, control, begun, whole, badCount, complete, writeByte, shown, readByte, stands, load, counts0, down0, pulse0, down2, again, reloads, pulse2, withGate, pulse as pulseOf}
 use Rattle.interval.specs.Interval.{fields, counterOk, accepted, resetOf, counterAt, putAt, outputs, pulseAll, pulsesAll}
@@ -164,5 +165,5 @@ failing (r ∷ rs) =
 
 -- no row fails
 cards-hold : failing cards ≡ []
-unfolding cards failing sameNumbers sameValue sameReply sameReplies most oneBelow digitsOk decimal decades numberOf shownAs fresh reads latchNow control begun whole badCount complete writeByte shown readByte stands load counts0 down0 pulse0 down2 again reloads pulse2 withGate pulseOf fields counterOk accepted resetOf counterAt putAt outputs pulseAll pulsesAll answered controlAnswer writeAnswer readAnswer pulseAnswer jumpAnswer play runBy
+unfolding cards failing same sameValue sameReply sameReplies most oneBelow digitsOk decimal decades numberOf shownAs fresh reads latchNow control begun whole badCount complete writeByte shown readByte stands load counts0 down0 pulse0 down2 again reloads pulse2 withGate pulseOf fields counterOk accepted resetOf counterAt putAt outputs pulseAll pulsesAll answered controlAnswer writeAnswer readAnswer pulseAnswer jumpAnswer play runBy
 cards-hold = refl

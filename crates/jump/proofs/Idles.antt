@@ -1,5 +1,5 @@
--- Where Timer 1's reload is all that happens: the device after the cycles that are left, the overflows in them, and each pass of that loop
--- one round of the jump; by the laws of the reload.
+-- Where Timer 1's reload is all that happens: the device after the cycles that are left, the overflows in them and their rounds; by the
+-- laws of the reload.
 use Prim.Native.Nat.{ℕ}
 use mathlib.Core.Path.{_≡_, sym, ap, _∙_}
 use mathlib.Core.Bool.{Bool, true}
@@ -7,11 +7,11 @@ use Rattle.machine.specs.declared.Device.{Device}
 use Rattle.machine.specs.Record.{pinsOf}
 use Rattle.machine.specs.Cycle.{cycles}
 use Rattle.machine.specs.Totals.{totals}
-use Rattle.strides.specs.Stride.{usedOf}
-use Rattle.jump.specs.Rounds.{Ready, usedIn}
+use Rattle.machine.specs.Rounds.{rounds}
+use Rattle.jump.specs.Rounds.{Ready}
 use Rattle.record.proofs.Accepted.{ranges-of}
-use Rattle.reload.specs.Reload.{idlesAt, idleAt, clockingOf, idlingOf, idleCycles, usedIdling, idleTotals}
-use Rattle.reload.proofs.Runs.{idle-law, idle-room}
+use Rattle.reload.specs.Reload.{idlesAt, idleAt, idleRounds, idleTotals}
+use Rattle.reload.proofs.Runs.{idle-law, idle-counted}
 use Rattle.reload.proofs.Totals.{idle-totals}
 
 module _ (pins : ℕ) (d : Device) (r : Ready pins d) {b : Bool} (q : b ≡ idlesAt pins d) (t : b ≡ true) where
@@ -29,9 +29,6 @@ module _ (pins : ℕ) (d : Device) (r : Ready pins d) {b : Bool} (q : b ≡ idle
   pub idle-laps : (n : ℕ) → totals n pins d ≡ idleTotals n (d .timers)
   idle-laps n = idle-totals n pins d (ranges-of d (r .good)) idles-here
 
-  -- a pass of the loop over TL1, after n cycles, is a round of the jump
-  pub idle-rounds : (n left : ℕ) → usedIdling left (idleCycles n (clockingOf pins d) (idlingOf d)) ≡ usedIn pins left (cycles n pins d)
-  unfolding usedIdling usedIn
-  idle-rounds n left =
-      ap (λ (l : ℕ). usedIdling left (idleCycles n (clockingOf l d) (idlingOf d))) (sym (r .taken))
-      ∙ ap (λ (m : ℕ). usedOf m left) (sym (idle-room n pins d (ranges-of d (r .good)) idles-here))
+  -- and their rounds
+  pub idle-rounds : (n : ℕ) → rounds n pins d ≡ idleRounds n pins d
+  idle-rounds n = idle-counted n pins d (ranges-of d (r .good)) idles-here ∙ ap (λ (l : ℕ). idleRounds n l d) (r .taken)

@@ -2,5 +2,5 @@ pub mod Taken
 pub mod Keeps
 pub mod Idles
 pub mod Rounds
-pub mod Reached
 pub mod Busy
+pub mod Reached

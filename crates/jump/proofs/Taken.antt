@@ -1,8 +1,9 @@
--- The pin byte as the kind takes it stands for the one that is given: taking it again changes nothing, and cycles and their overflows
--- are the same with it; by induction on the cycles.
+-- The pin byte as the kind takes it stands for the one that is given: taking it again changes nothing, and cycles, their overflows and
+-- their rounds are the same with it; by induction on the cycles.
 use Prim.Native.Nat.{ℕ, zero, suc}
 use mathlib.Core.Path.{_≡_, refl, sym, ap, _∙_}
-use mathlib.Core.Bool.{Bool, true, false, cond}
+use mathlib.Core.Bool.{Bool, true, false, cond, _&&_, _||_, not}
+use mathlib.Core.List.{List, _∷_}
 use native.Mathlib.Omega.{arith}
 use lib.Dec.{eqb}
 use Rattle.machine.specs.declared.Totals.{Totals}
@@ -13,6 +14,8 @@ use Rattle.machine.specs.Power.{poweredDown}
 use Rattle.machine.specs.Record.{accepted, pinsOf}
 use Rattle.machine.specs.Cycle.{counted, overflowsOf, steps, cycleOf, cycles}
 use Rattle.machine.specs.Totals.{noTotals, added, byTimer, totalsNext, totals}
+use Rattle.machine.specs.Same.{same}
+use Rattle.machine.specs.Rounds.{overflowed, overflows, working, watched, busy, marks, roundsOf, rounds}
 use Rattle.laws.proofs.Bits.{bit-set, bit-set-other, set-same}
 use Rattle.strides.proofs.Runs.{cycle-kind}
 use Rattle.jump.specs.Rounds.{Ready}
@@ -63,6 +66,19 @@ totals-taken (suc n) pins d =
     ap (λ (t : Totals). added t (totals n (pinsOf (d .kind) pins) (cycleOf (pinsOf (d .kind) pins) d))) (next-taken pins d)
     ∙ ap (added (totalsNext pins d)) (taken-on (totals n) pins d (totals-taken n pins (cycleOf pins d)))
 
+busy-taken : (pins : ℕ) (d : Device) → busy (pinsOf (d .kind) pins) d ≡ busy pins d
+unfolding busy overflows
+busy-taken pins d =
+    λ i. not (poweredDown (d .pcon))
+    && ((overflowed (overflowsOf (counted d (pins-twice (d .kind) pins i))) || working d)
+    || (working (cycle-taken pins d i) || not (same (watched d) (watched (cycle-taken pins d i)))))
+
+marks-taken : (n pins : ℕ) (d : Device) → marks n (pinsOf (d .kind) pins) d ≡ marks n pins d
+unfolding marks
+marks-taken zero pins d = refl
+marks-taken (suc n) pins d =
+    λ i. busy-taken pins d i ∷ taken-on (marks n) pins d (marks-taken n pins (cycleOf pins d)) i
+
 -- what is called with a pin byte as the kind takes it promises the same of the one that is given
 module _ (pins : ℕ) (d : Device) {l : ℕ} (e : l ≡ pinsOf (d .kind) pins) where
   pub ready-taken : accepted d ≡ true → Ready l d
@@ -73,3 +89,7 @@ module _ (pins : ℕ) (d : Device) {l : ℕ} (e : l ≡ pinsOf (d .kind) pins) w
 
   pub laps-taken : (n : ℕ) (sum : Totals) {t : Totals} → t ≡ added sum (totals n l d) → t ≡ added sum (totals n pins d)
   laps-taken n sum c = c ∙ ap (added sum) (ap (λ (p : ℕ). totals n p d) e ∙ totals-taken n pins d)
+
+  pub count-taken : (n : ℕ) {m : ℕ} → m ≡ rounds n l d → m ≡ rounds n pins d
+  unfolding rounds
+  count-taken n c = c ∙ (ap (λ (p : ℕ). rounds n p d) e ∙ ap (λ (ms : List Bool). roundsOf ms) (marks-taken n pins d))

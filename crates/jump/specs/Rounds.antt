@@ -1,13 +1,15 @@
--- What a round of a jump passes.
-use Prim.Native.Nat.{ℕ, _<_, _≤_}
+-- What a round of a jump passes, and where a jump stands between two of them.
+use Prim.Native.Nat.{ℕ, _+_, _<_, _≤_}
 use mathlib.Core.Path.{_≡_}
 use mathlib.Core.Bool.{true, false}
 use mathlib.Core.Logic.{_⊎_}
+use Rattle.machine.specs.declared.Totals.{Totals}
 use Rattle.machine.specs.declared.Device.{Device}
 use Rattle.machine.specs.Record.{accepted, pinsOf}
 use Rattle.machine.specs.Cycle.{cycles}
-use Rattle.machine.specs.Totals.{added, totals}
-use Rattle.strides.specs.Busy.{busy}
+use Rattle.machine.specs.Totals.{added, totals, Within}
+use Rattle.machine.specs.Rounds.{busy, rounds}
+use Rattle.machine.specs.Calls.{longest}
 use Rattle.strides.specs.Stride.{room, usedOf}
 use Rattle.cycle.specs.declared.Run.{Run}
 use Rattle.jump.specs.declared.Round.{Round}
@@ -44,3 +46,17 @@ pub record QuietRun (pins left : ℕ) (d : Device) (used : ℕ) : Type 0 where
 -- either
 abbrev pub RoundOf : ℕ → ℕ → Device → ℕ → Type 0
 RoundOf pins left d used = BusyCycle pins d used ⊎ QuietRun pins left d used
+
+-- the overflows at the end of n cycles more
+abbrev pub whole : ℕ → ℕ → Run → Totals
+whole pins n start = added (start .totals) (totals n pins (start .device))
+
+-- A jump of n cycles after so many rounds, with so many cycles left: these, from the device reached, end where all of them end, bring the
+-- overflows that are still to be added, and take the rounds that are still to be counted
+pub record Reached (pins n : ℕ) (start run : Run) (left done : ℕ) : Type 0 where
+  pub ready : Ready pins (run .device)
+  pub within : done + left ≤ n
+  pub ends : cycles left pins (run .device) ≡ cycles n pins (start .device)
+  pub sums : added (run .totals) (totals left pins (run .device)) ≡ whole pins n start
+  pub most : Within (longest + n) (whole pins n start)
+  pub counts : done + rounds left pins (run .device) ≡ rounds n pins (start .device)

@@ -11,6 +11,7 @@ use Rattle.machine.specs.declared.FlagTimes.{FlagTimes}
 use Rattle.machine.specs.declared.Device.{Device}
 use Rattle.machine.specs.declared.Totals.{Totals}
 use Rattle.machine.specs.declared.Answer.{Answer}
+use Rattle.machine.specs.declared.JumpAnswer.{JumpAnswer}
 use Rattle.machine.specs.declared.RunAnswer.{RunAnswer}
 use Rattle.machine.specs.declared.CycleAnswer.{CycleAnswer}
 use Rattle.machine.specs.declared.TakeAnswer.{TakeAnswer}
@@ -21,7 +22,7 @@ use Rattle.machine.specs.Interrupts.{Source, none, source, offered, noneInServi
 use Rattle.machine.specs.Flags.{flags, rose, risen}
 use Rattle.machine.specs.Times.{noted, timesAfter, never}
 use Rattle.machine.specs.Cycle.{steps, cycleOf, cycles}
-use Rattle.machine.specs.Calls.{refuseRun, passedRun, refuseCycle, passedCycle, resetAnswer, stored, writeAnswer, cycleAnswer, cyclesFault, jumpAnswer, entryPins, entryCycles, traceFault, traceCycles, traceAnswer, takeOf, takeAnswer, returnAnswer}
+use Rattle.machine.specs.Calls.{refuseRun, passedJump, refuseJump, passedRun, refuseCycle, passedCycle, resetAnswer, stored, writeAnswer, cycleAnswer, cyclesFault, jumpAnswer, entryPins, entryCycles, traceFault, traceCycles, traceAnswer, takeOf, takeAnswer, returnAnswer}
 use Rattle.machine.specs.Lists.{Call, play, run, started, machine}
 use Rattle.machine.proofs.Choices.{chosen, by-test}
 use Rattle.laws.specs.LastRise.{Made, madeHeld, madeTrace, madeBy, made, everIn, numberIn, LastRises}
@@ -143,6 +144,9 @@ module _ (d : Device) where
 
   -- a call that makes cycles makes them where it passes, and leaves the pairs where it is refused
   module _ (ms new : List Made) (r : Recalls (d .times) ms) (e : Device) (q : Recalls (e .times) new) where
+    abbrev RecallsJump : JumpAnswer → Type 0
+    RecallsJump a = Recalls (a .device .times) (cond (eqb (a .code) 0) new ms)
+
     abbrev RecallsRun : RunAnswer → Type 0
     RecallsRun a = Recalls (a .device .times) (cond (eqb (a .code) 0) new ms)
 
@@ -150,6 +154,10 @@ module _ (d : Device) where
     RecallsCycle a = Recalls (a .device .times) (cond (eqb (a .code) 0) new ms)
 
     -- refused by a number that is not 0
+    jump-recalls : (t : Totals) (rounds fault : ℕ) (b : Bool) → eqb fault 0 ≡ b → RecallsJump (cond b (passedJump t rounds e) (refuseJump fault d))
+    jump-recalls t rounds fault true f = q
+    jump-recalls t rounds fault false f = rw f r
+
     run-recalls : (t : Totals) (fault : ℕ) (b : Bool) → eqb fault 0 ≡ b → RecallsRun (cond b (passedRun t e) (refuseRun fault d))
     run-recalls t fault true f = q
     run-recalls t fault false f = rw f r
@@ -187,7 +195,7 @@ call-recalls (Call.write a v) d ms r = rw (write-keeps d a v) r
 call-recalls (Call.cycle pins) d ms r =
     cycle-answers d ms _ r (cycleOf pins d) (held-recalls 1 pins d ms r) pins
 call-recalls (Call.jump pins n) d ms r =
-    run-recalls d ms _ r (cycles n pins d) (held-recalls n pins d ms r) _ (cyclesFault d pins n) (eqb (cyclesFault d pins n) 0) refl
+    jump-recalls d ms _ r (cycles n pins d) (held-recalls n pins d ms r) _ _ (cyclesFault d pins n) (eqb (cyclesFault d pins n) 0) refl
 call-recalls (Call.trace es) d ms r =
     trace-answers d ms _ r (traceCycles es d) (trace-recalls es d ms r) _ (traceFault es)
 call-recalls (Call.look pins n) d ms r = r

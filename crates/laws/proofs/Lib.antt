@@ -7,3 +7,4 @@ pub mod Sleep
 pub mod Arrays
 pub mod LastRise
 pub mod Rows
+pub mod Rounds

@@ -8,6 +8,7 @@ use native.Mathlib.Omega.{arith}
 use lib.Dec.{eqb}
 use Rattle.machine.specs.declared.Device.{Device}
 use Rattle.machine.specs.declared.Answer.{Answer}
+use Rattle.machine.specs.declared.JumpAnswer.{JumpAnswer}
 use Rattle.machine.specs.declared.RunAnswer.{RunAnswer}
 use Rattle.machine.specs.declared.CycleAnswer.{CycleAnswer}
 use Rattle.machine.specs.declared.TakeAnswer.{TakeAnswer}
@@ -52,7 +53,7 @@ module _ (d : Device) (down : poweredDown (d .pcon) ≡ true) where
       chosen (λ (x : CycleAnswer). x .device ≡ d) (accepted d) _ _
       (chosen (λ (x : CycleAnswer). x .device ≡ d) (pinsOk pins) _ _ (cycle-down pins) refl) refl
   call-stays (Call.jump pins m) n =
-      chosen (λ (x : RunAnswer). x .device ≡ d) (eqb (cyclesFault d pins m) 0) _ _ (cycles-stay m pins) refl
+      chosen (λ (x : JumpAnswer). x .device ≡ d) (eqb (cyclesFault d pins m) 0) _ _ (cycles-stay m pins) refl
   call-stays (Call.trace es) n =
       chosen (λ (x : RunAnswer). x .device ≡ d) (accepted d) _ _
       (chosen (λ (x : RunAnswer). x .device ≡ d) (eqb (traceFault es) 0) _ _ (entries-stay es) refl) refl

@@ -6,6 +6,7 @@ use lib.Dec.{eqb}
 use Rattle.machine.proofs.Choices.{chosen}
 use Rattle.machine.specs.declared.Device.{Device}
 use Rattle.machine.specs.declared.Answer.{Answer}
+use Rattle.machine.specs.declared.JumpAnswer.{JumpAnswer}
 use Rattle.machine.specs.declared.RunAnswer.{RunAnswer}
 use Rattle.machine.specs.declared.CycleAnswer.{CycleAnswer}
 use Rattle.machine.specs.declared.TakeAnswer.{TakeAnswer}
@@ -20,6 +21,9 @@ module _ (d : Device) where
   -- refused, or all is well
   abbrev Same : Answer → Type 0
   Same a = (a .code ≡ 0 → ⊥) → a .device ≡ d
+
+  abbrev SameJump : JumpAnswer → Type 0
+  SameJump a = (a .code ≡ 0 → ⊥) → (a .totals ≡ noTotals) × ((a .rounds ≡ 0) × (a .device ≡ d))
 
   abbrev SameRun : RunAnswer → Type 0
   SameRun a = (a .code ≡ 0 → ⊥) → (a .totals ≡ noTotals) × (a .device ≡ d)
@@ -45,10 +49,10 @@ module _ (d : Device) where
       (chosen SameCycle (pinsOk pins) _ _ (λ n. absurd (n refl)) (λ _. (refl, refl)))
       (λ _. (refl, refl))
 
-  pub jump-refused : (pins n : ℕ) → SameRun (jumpAnswer d pins n)
+  pub jump-refused : (pins n : ℕ) → SameJump (jumpAnswer d pins n)
   unfolding jumpAnswer
   jump-refused pins n =
-      chosen SameRun (eqb (cyclesFault d pins n) 0) _ _ (λ n. absurd (n refl)) (λ _. (refl, refl))
+      chosen SameJump (eqb (cyclesFault d pins n) 0) _ _ (λ n. absurd (n refl)) (λ _. (refl, (refl, refl)))
 
   pub trace-refused : (es : List ℕ) → SameRun (traceAnswer d es)
   unfolding traceAnswer

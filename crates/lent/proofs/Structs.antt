@@ -1,7 +1,9 @@
--- The device as the struct that is lent, and where the answers of its calls have it, their bytes and their totals.
+-- The device as the struct that is lent, and where the answers of its calls have it, their bytes, their totals and their rounds.
 use mathlib.Core.Path.{refl}
 use mathlib.Core.List.{[], _∷_}
-use mir.Val.{WT}
+use Prim.Native.Nat.{_^_, _<_}
+use mir.Syntax.{tyInt, w64}
+use mir.Val.{vint, WT}
 use denote.Laws.{Is}
 use denote.Struct.Declared.{row}
 use denote.Struct.Laws as LL
@@ -9,6 +11,8 @@ use Rattle.machine.proofs.Device as Device
 use Rattle.machine.proofs.Device.Laws as Device′
 use Rattle.machine.proofs.Answer as Answer
 use Rattle.machine.proofs.Answer.Laws as Answer′
+use Rattle.machine.proofs.JumpAnswer as JumpAnswer
+use Rattle.machine.proofs.JumpAnswer.Laws as JumpAnswer′
 use Rattle.machine.proofs.RunAnswer as RunAnswer
 use Rattle.machine.proofs.RunAnswer.Laws as RunAnswer′
 use Rattle.machine.proofs.CycleAnswer as CycleAnswer
@@ -25,6 +29,9 @@ device = record { type = Device.the-type; laws = Device′.the-laws; plains = De
 abbrev pub answer-carries : Carries device Answer.the-type Answer′.the-laws 1
 answer-carries = record { struct = λ r. r .device; offset = 8; found = refl; held = λ r. refl; owns = λ r known. known .1 .0 }
 
+abbrev pub jump-answer-carries : Carries device JumpAnswer.the-type JumpAnswer′.the-laws 3
+jump-answer-carries = record { struct = λ r. r .device; offset = 40; found = refl; held = λ r. refl; owns = λ r known. known .1 .1 .1 .0 }
+
 abbrev pub run-answer-carries : Carries device RunAnswer.the-type RunAnswer′.the-laws 2
 run-answer-carries = record { struct = λ r. r .device; offset = 32; found = refl; held = λ r. refl; owns = λ r known. known .1 .1 .0 }
 
@@ -37,12 +44,26 @@ take-answer-carries = record { struct = λ r. r .device; offset = 8; found = ref
 abbrev pub answer-code : Byte Answer.the-type Answer′.the-laws 0
 answer-code = record { byte = λ r. r .code; offset = 0; found = refl; held = λ r. refl; fits = λ r known. known .0 .1 }
 
+abbrev pub jump-code : Byte JumpAnswer.the-type JumpAnswer′.the-laws 0
+jump-code = record { byte = λ r. r .code; offset = 0; found = refl; held = λ r. refl; fits = λ r known. known .0 .1 }
+
 abbrev pub run-code : Byte RunAnswer.the-type RunAnswer′.the-laws 0
 run-code = record { byte = λ r. r .code; offset = 0; found = refl; held = λ r. refl; fits = λ r known. known .0 .1 }
 
 -- overflow totals
 abbrev pub totals : Struct
 totals = record { type = Totals.the-type; laws = Totals′.the-laws; plains = Totals′.the-plain }
+
+abbrev pub jump-totals : Piece JumpAnswer.the-type JumpAnswer′.the-laws 1
+jump-totals = record {
+  ty = stored-as totals;
+  val = λ r. value totals (r .totals);
+  offset = 8;
+  found = refl;
+  held = λ r. refl;
+  Fits = λ r. Is (row Totals.the-type) (r .totals) (value totals (r .totals) ∷ []);
+  fits = λ r known. known .1 .0;
+}
 
 abbrev pub run-totals : Piece RunAnswer.the-type RunAnswer′.the-laws 1
 run-totals = record {
@@ -60,6 +81,18 @@ abbrev pub totals-typed : (t : Totals.the-type .D) → Is (row Totals.the-type) 
 totals-typed t is =
     let known = LL.owed Totals.the-type Totals′.the-laws t _ is in
     (record { fits = known .0 .1 }, (record { fits = known .1 .0 .1 }, (record { fits = known .1 .1 .0 .1 }, tt)))
+
+-- rounds
+abbrev pub jump-rounds : Piece JumpAnswer.the-type JumpAnswer′.the-laws 2
+jump-rounds = record {
+  ty = tyInt w64;
+  val = λ r. vint w64 (r .rounds);
+  offset = 32;
+  found = refl;
+  held = λ r. refl;
+  Fits = λ r. r .rounds < 2 ^ 64;
+  fits = λ r known. known .1 .1 .0 .1;
+}
 
 abbrev pub cycle-code : Byte CycleAnswer.the-type CycleAnswer′.the-laws 0
 cycle-code = record { byte = λ r. r .code; offset = 0; found = refl; held = λ r. refl; fits = λ r known. known .0 .1 }

@@ -8,13 +8,15 @@ use native.Mathlib.Omega.{arith}
 use lib.Dec.{eqb}
 use borrow.Author.Tests.{eqb-false}
 use Rattle.machine.specs.declared.Totals.{Totals}
+use Rattle.machine.specs.declared.JumpAnswer.{JumpAnswer}
 use Rattle.machine.specs.declared.RunAnswer.{RunAnswer}
 use Rattle.machine.specs.declared.Device.{Device}
 use Rattle.machine.specs.Record.{accepted, pinsOk}
 use Rattle.machine.specs.Cycle.{cycleOf, cycles}
 use Rattle.machine.specs.Totals.{added, totalsNext, totals}
-use Rattle.machine.specs.Calls.{refuseRun, passedRun, refuseCycle, passedCycle, cycleAnswer, cyclesFault, jumpAnswer, entryPins, entryCycles, traceFault, traceCycles, traceTotals, traceAnswer}
-use Rattle.machine.specs.Lists.{Call, Reply, Played, replyOfRun, play}
+use Rattle.machine.specs.Rounds.{rounds}
+use Rattle.machine.specs.Calls.{refuseJump, passedJump, refuseRun, passedRun, refuseCycle, passedCycle, cycleAnswer, cyclesFault, jumpAnswer, entryPins, entryCycles, traceFault, traceCycles, traceTotals, traceAnswer}
+use Rattle.machine.specs.Lists.{Call, Reply, Played, replyOfJump, replyOfRun, play}
 use Rattle.totals.proofs.Sums.{none-added, added-on}
 use Rattle.lists.specs.Spelling.{Each}
 use Rattle.lists.specs.Demand3.{Chained}
@@ -59,9 +61,18 @@ trace-passed : (a b : Bool) (fault : ℕ) (t : Totals) (d e : Device) → eqb fa
 trace-passed true b fault t d e q h = run-passed b fault t d e q h
 trace-passed false b fault t d e q h = absurd (omega arith)
 
-jump-passed : (pins n : ℕ) (d : Device) → jumpAnswer d pins n .code ≡ 0 → jumpAnswer d pins n ≡ passedRun (totals n pins d) (cycles n pins d)
+jump-passed : (pins n : ℕ) (d : Device) → jumpAnswer d pins n .code ≡ 0
+    → jumpAnswer d pins n ≡ passedJump (totals n pins d) (rounds n pins d) (cycles n pins d)
 unfolding jumpAnswer
-jump-passed pins n d h = run-passed (eqb (cyclesFault d pins n) 0) (cyclesFault d pins n) _ d _ refl h
+jump-passed pins n d h = go (eqb (cyclesFault d pins n) 0) refl h
+  where
+    passes : JumpAnswer
+    passes = passedJump (totals n pins d) (rounds n pins d) (cycles n pins d)
+
+    go : (b : Bool) → eqb (cyclesFault d pins n) 0 ≡ b → cond b passes (refuseJump (cyclesFault d pins n) d) .code ≡ 0
+        → cond b passes (refuseJump (cyclesFault d pins n) d) ≡ passes
+    go true q h = refl
+    go false q h = absurd (eqb-false (cyclesFault d pins n) 0 q h)
 
 entries-passed : (es : List ℕ) (d : Device) → traceAnswer d es .code ≡ 0 → traceAnswer d es ≡ passedRun (traceTotals es d) (traceCycles es d)
 unfolding traceAnswer
@@ -73,7 +84,7 @@ unfolding play over pinsOfCall cycleAnswer
 call-over (Crosses.cycle {pins = pins}) d h =
     cycle-passed (accepted d) (pinsOk pins) d (cycleOf pins d) h
 call-over (Crosses.jump {pins = pins} {n = n}) d h =
-    ap (λ (a : RunAnswer). a .device) (jump-passed pins n d h) ∙ sym (over-held n pins d)
+    ap (λ (a : JumpAnswer). a .device) (jump-passed pins n d h) ∙ sym (over-held n pins d)
 call-over (Crosses.trace {es = es}) d h =
     ap (λ (a : RunAnswer). a .device) (entries-passed es d h) ∙ sym (over-entries es d)
 
@@ -116,7 +127,7 @@ laps-entries (e ∷ es) d =
 call-laps : {c : Call} (x : Counts c) (d : Device) → play c d .reply .code ≡ 0 → totalsIn (play c d .reply) ≡ overflowsOver (pinsOfCall c) d
 unfolding play pinsOfCall totalsIn
 call-laps (Counts.jump {pins = pins} {n = n}) d h =
-    ap (λ (a : RunAnswer). totalsIn (replyOfRun a)) (jump-passed pins n d h) ∙ sym (laps-held n pins d)
+    ap (λ (a : JumpAnswer). totalsIn (replyOfJump a)) (jump-passed pins n d h) ∙ sym (laps-held n pins d)
 call-laps (Counts.trace {es = es}) d h =
     ap (λ (a : RunAnswer). totalsIn (replyOfRun a)) (entries-passed es d h) ∙ sym (laps-entries es d)
 

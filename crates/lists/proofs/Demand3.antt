@@ -6,13 +6,14 @@ use native.Mathlib.Omega.{arith}
 use lib.ListN.{length}
 use Rattle.machine.specs.declared.Device.{Device}
 use Rattle.machine.specs.declared.Answer.{Answer}
+use Rattle.machine.specs.declared.JumpAnswer.{JumpAnswer}
 use Rattle.machine.specs.declared.RunAnswer.{RunAnswer}
 use Rattle.machine.specs.declared.CycleAnswer.{CycleAnswer}
 use Rattle.machine.specs.declared.TakeAnswer.{TakeAnswer}
 use Rattle.machine.specs.declared.ReadAnswer.{ReadAnswer}
 use Rattle.machine.specs.declared.OfferAnswer.{OfferAnswer}
 use Rattle.machine.specs.declared.LookAnswer.{LookAnswer}
-use Rattle.machine.specs.Lists.{Call, Value, Reply, Played, Ran, ran, play, run, Start, started, machine, played, replyOf, replyOfRun, replyOfCycle, replyOfTake, replyOfRead, replyOfOffer, replyOfLook}
+use Rattle.machine.specs.Lists.{Call, Value, Reply, Played, Ran, ran, play, run, Start, started, machine, played, replyOf, replyOfJump, replyOfRun, replyOfCycle, replyOfTake, replyOfRead, replyOfOffer, replyOfLook}
 use Rattle.c51_checkpoint.proofs.Promises.{saved-loaded}
 use Rattle.lists.specs.Demand3.{Kept, Chained, Started, AsksNothing, risesIn, offeredAfter, Tells, ToldInLists, Demand3}
 use Rattle.lists.specs.Demand3.Chained.{nothing, then}
@@ -27,7 +28,7 @@ kept-played (Kept.reset e) = ap (λ (a : Answer). played (replyOf a) (a .device)
 kept-played (Kept.read {d = d} e) = ap (λ (a : ReadAnswer). played (replyOfRead a) d) (e .0)
 kept-played (Kept.write e) = ap (λ (a : Answer). played (replyOf a) (a .device)) e
 kept-played (Kept.cycle e) = ap (λ (a : CycleAnswer). played (replyOfCycle a) (a .device)) e
-kept-played (Kept.jump e) = ap (λ (a : RunAnswer). played (replyOfRun a) (a .device)) e
+kept-played (Kept.jump e) = ap (λ (a : JumpAnswer). played (replyOfJump a) (a .device)) e
 kept-played (Kept.trace κ es e) = ap (λ (a : RunAnswer). played (replyOfRun a) (a .device)) e
 kept-played (Kept.look {d = d} e) = ap (λ (a : LookAnswer). played (replyOfLook a) d) (e .0)
 kept-played (Kept.offer {d = d} e) = ap (λ (a : OfferAnswer). played (replyOfOffer a) d) (e .0)

@@ -85,20 +85,28 @@ module _ (all : List Reply) (before now : List ℕ) (i : ℕ) where
 
 -- the code stores the words of a row one by one
 words : (r : Reply)
-    → rowOf r ≡ getD (rowOf r) 0 0 ∷ getD (rowOf r) 1 0 ∷ getD (rowOf r) 2 0 ∷ getD (rowOf r) 3 0 ∷ getD (rowOf r) 4 0 ∷ []
+    → rowOf r
+    ≡ getD (rowOf r) 0 0 ∷ getD (rowOf r) 1 0 ∷ getD (rowOf r) 2 0 ∷ getD (rowOf r) 3 0 ∷ getD (rowOf r) 4 0 ∷ getD (rowOf r) 5 0 ∷ []
 words r = ap (λ (ns : List ℕ). r .code ∷ countOf (r .value) ∷ ns) (go (numbersOf (r .value)))
   where
     go : (ns : List ℕ)
-        → padded mostNumbers ns ≡ getD (padded mostNumbers ns) 0 0 ∷ getD (padded mostNumbers ns) 1 0 ∷ getD (padded mostNumbers ns) 2 0 ∷ []
+        → padded mostNumbers ns
+        ≡ getD (padded mostNumbers ns) 0 0
+        ∷ getD (padded mostNumbers ns) 1 0
+        ∷ getD (padded mostNumbers ns) 2 0
+        ∷ getD (padded mostNumbers ns) 3 0
+        ∷ []
     go [] = refl
     go (n ∷ []) = refl
     go (n ∷ m ∷ []) = refl
-    go (n ∷ m ∷ k ∷ ns) = refl
+    go (n ∷ m ∷ k ∷ []) = refl
+    go (n ∷ m ∷ k ∷ l ∷ ns) = refl
 
 abbrev pub stored : List ℕ → ℕ → List ℕ → List ℕ
 stored row at xs =
-    set (set (set (set (set xs at (getD row 0 0)) (at + 1) (getD row 1 0)) (at + 2) (getD row 2 0)) (at + 3) (getD row 3 0))
-    (at + 4) (getD row 4 0)
+    set
+    (set (set (set (set (set xs at (getD row 0 0)) (at + 1) (getD row 1 0)) (at + 2) (getD row 2 0)) (at + 3) (getD row 3 0)) (at + 4) (getD row 4 0))
+    (at + 5) (getD row 5 0)
 
 stored-is : (r : Reply) (at : ℕ) (xs : List ℕ) → stored (rowOf r) at xs ≡ put (rowOf r) at xs
 unfolding put
@@ -106,8 +114,11 @@ stored-is r at xs =
     let e : at + 2 ≡ at + 1 + 1 = omega arith in
     let f : at + 3 ≡ at + 1 + 1 + 1 = omega arith in
     let g : at + 4 ≡ at + 1 + 1 + 1 + 1 = omega arith in
+    let h : at + 5 ≡ at + 1 + 1 + 1 + 1 + 1 = omega arith in
     let row = rowOf r in
-    (λ i. set (set (set (set (set xs at (getD row 0 0)) (at + 1) (getD row 1 0)) (e i) (getD row 2 0)) (f i) (getD row 3 0)) (g i) (getD row 4 0))
+    (λ i. set
+    (set (set (set (set (set xs at (getD row 0 0)) (at + 1) (getD row 1 0)) (e i) (getD row 2 0)) (f i) (getD row 3 0)) (g i) (getD row 4 0))
+    (h i) (getD row 5 0))
     ∙ sym (ap (λ (ws : List ℕ). put ws at xs) (words r))
 
 -- the whole list

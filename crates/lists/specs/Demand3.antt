@@ -9,6 +9,7 @@ use base.Fml.{Lft}
 use denote.Ref.{RefT, now}
 use Rattle.machine.specs.declared.Device.{Device}
 use Rattle.machine.specs.declared.Answer.{Answer}
+use Rattle.machine.specs.declared.JumpAnswer.{JumpAnswer}
 use Rattle.machine.specs.declared.RunAnswer.{RunAnswer}
 use Rattle.machine.specs.declared.CycleAnswer.{CycleAnswer}
 use Rattle.machine.specs.declared.TakeAnswer.{TakeAnswer}
@@ -18,7 +19,7 @@ use Rattle.machine.specs.declared.LookAnswer.{LookAnswer}
 use Rattle.machine.specs.declared.LookAnswer.the-variants as Look
 use Rattle.machine.specs.Cycle.{cycles}
 use Rattle.machine.specs.Calls.{rises, offersTo}
-use Rattle.machine.specs.Lists.{Call, Value, Reply, Played, Ran, ran, run, Start, machine, played, number, replyOf, replyOfRun, replyOfCycle, replyOfTake, replyOfRead, replyOfOffer, replyOfLook}
+use Rattle.machine.specs.Lists.{Call, Value, Reply, Played, Ran, ran, run, Start, machine, played, number, replyOf, replyOfJump, replyOfRun, replyOfCycle, replyOfTake, replyOfRead, replyOfOffer, replyOfLook}
 use Rattle.calls.specs.Row.{answerWords}
 use Rattle.checkpoint.specs.Moves.{Sized}
 use Rattle.lists.specs.Script.{Script, callWords, repliesIn, Replayed}
@@ -52,9 +53,9 @@ pub data Kept : Call → Device → Played → Type 0 where
   cycle : {pins : ℕ} {d : Device} {r : CycleAnswer}
       → cycle-reads.Learnt tt (d, (pins, tt)) r (d, (pins, tt))
       → Kept (Call.cycle pins) d (played (replyOfCycle r) (r .device))
-  jump : {pins n : ℕ} {d : Device} {r : RunAnswer}
+  jump : {pins n : ℕ} {d : Device} {r : JumpAnswer}
       → jump-reads.Learnt tt (d, (pins, (n, tt))) r (d, (pins, (n, tt)))
-      → Kept (Call.jump pins n) d (played (replyOfRun r) (r .device))
+      → Kept (Call.jump pins n) d (played (replyOfJump r) (r .device))
   trace : (κ : Lft) (es : RefT (List ℕ)) {d : Device} {r : RunAnswer}
       → trace-reads.Learnt (κ, tt) (d, (es, tt)) r (d, (es, tt))
       → Kept (Call.trace (now es)) d (played (replyOfRun r) (r .device))

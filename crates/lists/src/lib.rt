@@ -37,6 +37,7 @@ pub fn replay(d: Device, calls: &[u64], lent: &[u32], answers: &mut [u64]) -> De
         answers[to + 2] = row[2];
         answers[to + 3] = row[3];
         answers[to + 4] = row[4];
+        answers[to + 5] = row[5];
         at = p.device;
         i += 1;
     }

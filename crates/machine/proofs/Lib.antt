@@ -3,3 +3,4 @@ pub mod Accepted
 pub mod Counting
 pub mod Overflowing
 pub mod Rollovers
+pub mod Rounds

@@ -1,7 +1,8 @@
 -- Document 01, "Jumps, traces, looking ahead", "The plain machine" and "Refused calls": the answer of each call and the device after it.
 -- Refusals are judged in the table's order, but for a trace, which has its own; a refused call leaves the device as given, but for a
 -- refused reset, which leaves the record of zeros. Document 02, request One: the wake look, and 10 for a write, a take and a return in
--- power-down, after 1 and before 3, 6 and 7. Request Seven: a jump and a trace run answer overflow totals.
+-- power-down, after 1 and before 3, 6 and 7. Request Seven: a jump and a trace run answer overflow totals. Request Nine: a jump answers
+-- its rounds too.
 use Prim.Native.Nat.{ℕ, zero, suc, _^_}
 use mathlib.Core.Bool.{Bool, cond}
 use mathlib.Core.List.{List, [], _∷_}
@@ -12,6 +13,7 @@ use Rattle.machine.specs.declared.Interrupts.{Interrupts}
 use Rattle.machine.specs.declared.Device.{Device}
 use Rattle.machine.specs.declared.Totals.{Totals}
 use Rattle.machine.specs.declared.Answer.{Answer}
+use Rattle.machine.specs.declared.JumpAnswer.{JumpAnswer}
 use Rattle.machine.specs.declared.RunAnswer.{RunAnswer}
 use Rattle.machine.specs.declared.CycleAnswer.{CycleAnswer}
 use Rattle.machine.specs.declared.TakeAnswer.{TakeAnswer}
@@ -31,6 +33,7 @@ use Rattle.machine.specs.Interrupts.Source.{none, source}
 use Rattle.machine.specs.Flags.{flags, anyRises}
 use Rattle.machine.specs.Cycle.{cycleOf, cycles}
 use Rattle.machine.specs.Totals.{noTotals, added, totals}
+use Rattle.machine.specs.Rounds.{rounds}
 
 -- a call that answers only that it passed
 abbrev pub passed : Device → Answer
@@ -132,12 +135,12 @@ cycleAnswer d pins =
     (unless (pinsOk pins) (refuseCycle 4 d)
     (passedCycle (cycleOf pins d)))
 
--- Jump: n cycles with one pin byte; it answers the overflows in them
-abbrev pub refuseRun : ℕ → Device → RunAnswer
-refuseRun n d = record { code = n; totals = noTotals; device = d }
+-- Jump: n cycles with one pin byte; it answers the overflows in them and their rounds
+abbrev pub refuseJump : ℕ → Device → JumpAnswer
+refuseJump n d = record { code = n; totals = noTotals; rounds = 0; device = d }
 
-abbrev pub passedRun : Totals → Device → RunAnswer
-passedRun t d = record { code = 0; totals = t; device = d }
+abbrev pub passedJump : Totals → ℕ → Device → JumpAnswer
+passedJump t rounds d = record { code = 0; totals = t; rounds = rounds; device = d }
 
 -- the most cycles of a jump, and the most entries of a trace
 abbrev pub longest : ℕ
@@ -154,12 +157,19 @@ cyclesFault d pins n =
     (unless (leb n longest) 5
     0))
 
-unfoldable pub jumpAnswer : Device → ℕ → ℕ → RunAnswer
+unfoldable pub jumpAnswer : Device → ℕ → ℕ → JumpAnswer
 jumpAnswer d pins n =
-    unless (eqb (cyclesFault d pins n) 0) (refuseRun (cyclesFault d pins n) d)
-    (passedRun (totals n pins d) (cycles n pins d))
+    unless (eqb (cyclesFault d pins n) 0) (refuseJump (cyclesFault d pins n) d)
+    (passedJump (totals n pins d) (rounds n pins d) (cycles n pins d))
 
--- Trace run: an entry has the pin byte on top and the cycles in its low 24 bits
+-- Trace run: the cycles of entries; it answers the overflows in them
+abbrev pub refuseRun : ℕ → Device → RunAnswer
+refuseRun n d = record { code = n; totals = noTotals; device = d }
+
+abbrev pub passedRun : Totals → Device → RunAnswer
+passedRun t d = record { code = 0; totals = t; device = d }
+
+-- an entry has the pin byte on top and the cycles in its low 24 bits
 abbrev pub entryPins : ℕ → ℕ
 entryPins e = field 24 8 e
 

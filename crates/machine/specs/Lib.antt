@@ -1,4 +1,5 @@
 pub mod Bits
+pub mod Same
 pub mod Registers
 pub mod Power
 pub mod Flags
@@ -11,6 +12,7 @@ pub mod Serial
 pub mod Interrupts
 pub mod Cycle
 pub mod Totals
+pub mod Rounds
 pub mod Rollovers
 pub mod Calls
 pub mod Checkpoint

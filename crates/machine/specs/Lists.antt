@@ -1,10 +1,12 @@
 -- Document 01, "The plain machine": a list of calls, the answers to it and the state at its end. Document 02, request One: wake looks
--- are among them; request Seven: a jump and a trace run answer three numbers; request Eight: a list may start from a loaded device.
+-- are among them; request Seven: a jump and a trace run answer three numbers; request Eight: a list may start from a loaded device;
+-- request Nine: a jump answers a fourth.
 use Prim.Native.Nat.{ℕ}
-use mathlib.Core.List.{List, [], _∷_}
+use mathlib.Core.List.{List, [], _∷_, _++_}
 use Rattle.machine.specs.declared.Device.{Device}
 use Rattle.machine.specs.declared.Totals.{Totals}
 use Rattle.machine.specs.declared.Answer.{Answer}
+use Rattle.machine.specs.declared.JumpAnswer.{JumpAnswer}
 use Rattle.machine.specs.declared.RunAnswer.{RunAnswer}
 use Rattle.machine.specs.declared.CycleAnswer.{CycleAnswer}
 use Rattle.machine.specs.declared.TakeAnswer.{TakeAnswer}
@@ -55,9 +57,15 @@ says c v = record { code = c; value = v }
 abbrev pub replyOf : Answer → Reply
 replyOf a = says (a .code) nothing
 
--- a jump and a trace run: the totals of Timers 0, 1 and 2
+-- a jump and a trace run: the totals of Timers 0, 1 and 2; a jump, after them, its rounds
 abbrev pub listed : Totals → List ℕ
 listed t = t .timer0 ∷ t .timer1 ∷ t .timer2 ∷ []
+
+abbrev pub listedWith : Totals → ℕ → List ℕ
+listedWith t rounds = listed t ++ rounds ∷ []
+
+abbrev pub replyOfJump : JumpAnswer → Reply
+replyOfJump a = says (a .code) (numbers (listedWith (a .totals) (a .rounds)))
 
 abbrev pub replyOfRun : RunAnswer → Reply
 replyOfRun a = says (a .code) (numbers (listed (a .totals)))
@@ -96,7 +104,7 @@ play (reset kind) d = played (replyOf (resetAnswer kind)) (resetAnswer kind .dev
 play (read a) d = played (replyOfRead (readAnswer d a)) d
 play (write a v) d = played (replyOf (writeAnswer d a v)) (writeAnswer d a v .device)
 play (cycle pins) d = played (replyOfCycle (cycleAnswer d pins)) (cycleAnswer d pins .device)
-play (jump pins n) d = played (replyOfRun (jumpAnswer d pins n)) (jumpAnswer d pins n .device)
+play (jump pins n) d = played (replyOfJump (jumpAnswer d pins n)) (jumpAnswer d pins n .device)
 play (trace es) d = played (replyOfRun (traceAnswer d es)) (traceAnswer d es .device)
 play (look pins n) d = played (replyOfLook (lookAnswer d pins n)) d
 play offer d = played (replyOfOffer (offerAnswer d)) d

@@ -1,19 +1,13 @@
 -- Replies compared, for cards: whether two lists of them are the same.
-use Prim.Native.Nat.{ℕ}
 use mathlib.Core.Bool.{Bool, true, false, _&&_}
 use mathlib.Core.List.{List, [], _∷_}
 use lib.Dec.{eqb}
+use Rattle.machine.specs.Same.{same}
 use Rattle.machine.specs.Lists.{Value, Reply}
 use Rattle.machine.specs.Lists.Value.{numbers, none}
 
-unfoldable pub sameNumbers : List ℕ → List ℕ → Bool
-sameNumbers [] [] = true
-sameNumbers [] (b ∷ bs) = false
-sameNumbers (a ∷ more) [] = false
-sameNumbers (a ∷ more) (b ∷ bs) = eqb a b && sameNumbers more bs
-
 unfoldable pub sameValue : Value → Value → Bool
-sameValue (numbers ms) (numbers ns) = sameNumbers ms ns
+sameValue (numbers ms) (numbers ns) = same ms ns
 sameValue (numbers ms) none = false
 sameValue none (numbers ns) = false
 sameValue none none = true

@@ -158,7 +158,15 @@ pub struct Answer {
     pub device: Device,
 }
 
-// The answer of a jump and of a trace run: 0 and the overflow totals, or the refusal's number and zeros; and the device.
+// The answer of a jump: 0, the overflow totals and the rounds, or the refusal's number and zeros; and the device.
+pub struct JumpAnswer {
+    pub code: u8,
+    pub totals: Totals,
+    pub rounds: u64,
+    pub device: Device,
+}
+
+// The answer of a trace run: 0 and the overflow totals, or the refusal's number and zeros; and the device.
 pub struct RunAnswer {
     pub code: u8,
     pub totals: Totals,

@@ -5,7 +5,7 @@ ghost use mathlib.Core.Bool.{false};
 ghost use Rattle.machine.specs.Power.{poweredDown};
 ghost use Rattle.machine.specs.Record.{levelsOf};
 ghost use Rattle.machine.specs.Timers as Step;
-ghost use Rattle.strides.specs.Busy.{same};
+ghost use Rattle.machine.specs.Same.{same};
 ghost use Rattle.strides.specs.Stride as Stride;
 use laws::least;
 use laws::pair13;

@@ -1,9 +1,11 @@
--- Cycles in a row of a device that idles: it goes on idling, its room is what TL1 has left, and each is silent; by
--- induction.
+-- Cycles in a row of a device that idles: it goes on idling, the busy ones are the reloads, and each is silent; by induction.
 use Prim.Native.Nat.{ℕ, zero, suc, _+_, _%_, _^_}
 use mathlib.Core.Path.{_≡_, refl, sym, ap, _∙_, subst}
 use mathlib.Core.Bool.{Bool, true, false, _&&_, and-false}
+use mathlib.Core.List.{List, _∷_}
+use native.Mathlib.Omega.{arith}
 use lib.Dec.{eqb}
+use borrow.Author.Tests.{eqb-true, eqb-false}
 use Rattle.machine.specs.declared.Device.{Device}
 use Rattle.machine.specs.Bits.{bit}
 use Rattle.machine.specs.Registers.{RXD, REN}
@@ -12,8 +14,9 @@ use Rattle.machine.specs.Timers.{counts0, counts1, countsHigh0}
 use Rattle.machine.specs.Serial.{startFound}
 use Rattle.machine.specs.Flags.{flags}
 use Rattle.machine.specs.Cycle.{cycleOf, cycles}
+use Rattle.machine.specs.Rounds.{busy, marks, roundsOf, rounds}
 use Rattle.laws.specs.Ranges.{Ranges}
-use Rattle.machine.proofs.Choices.{chosen, and-right, and-both}
+use Rattle.machine.proofs.Choices.{chosen, by-test, and-right, and-both}
 use Rattle.cycle.proofs.Keeps.{cycle-ranges}
 use Rattle.cycle.proofs.Steps.{cycle-up}
 use Rattle.strides.specs.Stride.{timersSettled, serialSettled, othersSettled, settledAt, left, room}
@@ -21,9 +24,9 @@ use Rattle.laws.proofs.Flags.{never-both}
 use Rattle.strides.proofs.Runs.{number-none, number-more}
 use Rattle.strides.proofs.Settles.{settled-rest, rest-settled}
 use Rattle.strides.proofs.Silent.{Silent}
-use Rattle.reload.specs.Reload.{idlesAt, clockingOf, idlingOf, ticksBy, reloaded, withPort, putIdling, raised, idleCycle, idleCycles, idleAt}
+use Rattle.strides.proofs.Exact.{room-idle as not-busy, no-room}
+use Rattle.reload.specs.Reload.{Idling, idlesAt, clockingOf, idlingOf, ticksBy, reloaded, withPort, putIdling, raised, idleCycle, idleCycles, idleMarks, idleAt, idleRounds}
 use Rattle.reload.specs.declared.Clocking.{Clocking}
-use Rattle.reload.specs.declared.Idling.{Idling}
 use Rattle.reload.proofs.Alone.{Idle, idles-idle, room-idle}
 use Rattle.reload.proofs.Step.{steps-idle}
 
@@ -106,17 +109,27 @@ pub idle-law : (n pins : ℕ) (d : Device) → Ranges d → idlesAt (pinsOf (d .
     → cycles n pins d ≡ idleAt n (pinsOf (d .kind) pins) d
 idle-law n pins d r e = idle-cycles n pins d r (idles-idle (pinsOf (d .kind) pins) d e)
 
--- it goes on idling, and its room is the counts of TL1 before the reload
-idle-stays : (n pins : ℕ) (d : Device) → Ranges d → Idle (pinsOf (d .kind) pins) d
-    → Idle (pinsOf (cycles n pins d .kind) pins) (cycles n pins d)
-unfolding cycles
-idle-stays zero pins d r f = f
-idle-stays (suc n) pins d r f = idle-stays n pins (cycleOf pins d) (cycle-ranges d r pins) (cycle-idle pins d r f)
+-- Its rounds
 
-pub idle-room : (n pins : ℕ) (d : Device) → Ranges d → idlesAt (pinsOf (d .kind) pins) d ≡ true
-    → room pins (cycles n pins d) ≡ left 8 (idleCycles n (clockingOf (pinsOf (d .kind) pins) d) (idlingOf d) .tl1)
-unfolding room idleAt putIdling
-idle-room n pins d r e =
-    let there = cycles n pins d in
-    room-idle (pinsOf (there .kind) pins) there (idle-stays n pins d r (idles-idle (pinsOf (d .kind) pins) d e))
-    ∙ ap (λ (u : Device). left 8 (u .timers .tl1)) (idle-law n pins d r e)
+-- a cycle is busy if and only if it is a reload
+idle-busy : (pins : ℕ) (d : Device) → Ranges d → Idle (pinsOf (d .kind) pins) d → busy pins d ≡ eqb (d .timers .tl1) 255
+unfolding room
+idle-busy pins d r f =
+    let here : room pins d ≡ left 8 (d .timers .tl1) = room-idle (pinsOf (d .kind) pins) d f in
+    by-test (eqb (d .timers .tl1) 255)
+    (λ t. no-room pins d r (omega (arith, here, eqb-true (d .timers .tl1) 255 t)) ∙ sym t)
+    (λ t. not-busy pins d r (omega (arith, here, r .timers .tl1, eqb-false (d .timers .tl1) 255 t)) ∙ sym t)
+
+idle-marks : (n pins : ℕ) (d : Device) → Ranges d → Idle (pinsOf (d .kind) pins) d
+    → marks n pins d ≡ idleMarks n (clockingOf (pinsOf (d .kind) pins) d) (idlingOf d)
+unfolding marks idleMarks next putIdling clockingOf
+idle-marks zero pins d r f = refl
+idle-marks (suc n) pins d r f =
+    let later = idle-marks n pins (cycleOf pins d) (cycle-ranges d r pins) (cycle-idle pins d r f) in
+    (λ i. idle-busy pins d r f i ∷ later i)
+    ∙ ap (λ (e : Device). eqb (d .timers .tl1) 255 ∷ idleMarks n (clockingOf (pinsOf (e .kind) pins) e) (idlingOf e)) (cycle-next pins d r f)
+
+pub idle-counted : (n pins : ℕ) (d : Device) → Ranges d → idlesAt (pinsOf (d .kind) pins) d ≡ true
+    → rounds n pins d ≡ idleRounds n (pinsOf (d .kind) pins) d
+unfolding rounds idleRounds
+idle-counted n pins d r e = ap (λ (ms : List Bool). roundsOf ms) (idle-marks n pins d r (idles-idle (pinsOf (d .kind) pins) d e))

@@ -29,8 +29,7 @@ use Rattle.serial.proofs.Quiet.{rest-shift, rest-ticks}
 use Rattle.strides.proofs.Timers.{no-flags}
 use Rattle.strides.proofs.Serial.{quiet-serial, stride-still}
 use Rattle.strides.proofs.Steps.{steps-rest}
-use Rattle.reload.specs.Reload.{clocks, clockingOf, idlingOf, reloaded, withPair1, withPort, putIdling, raised, idleCycle}
-use Rattle.reload.specs.declared.Idling.{Idling}
+use Rattle.reload.specs.Reload.{Idling, clocks, clockingOf, idlingOf, reloaded, withPair1, withPort, putIdling, raised, idleCycle}
 use Rattle.reload.proofs.Alone.{Alone, Idle}
 
 -- Step 2

@@ -20,9 +20,8 @@ use Rattle.laws.specs.Ranges.{Ranges}
 use Rattle.laws.proofs.Counting.{nextOr-up, nextOr-over}
 use Rattle.cycle.proofs.Keeps.{cycle-ranges}
 use Rattle.stretch.specs.Stretch.{lapped}
-use Rattle.reload.specs.Reload.{idlesAt, clockingOf, idlingOf, reloaded, raised, idleCycle, idleCycles, putIdling, idleTotals}
+use Rattle.reload.specs.Reload.{Idling, idlesAt, clockingOf, idlingOf, reloaded, raised, idleCycle, idleCycles, putIdling, idleTotals}
 use Rattle.reload.specs.declared.Clocking.{Clocking}
-use Rattle.reload.specs.declared.Idling.{Idling}
 use Rattle.reload.proofs.Alone.{Idle, idles-idle}
 use Rattle.reload.proofs.Step.{stopped}
 use Rattle.reload.proofs.Runs.{next, cycle-next, cycle-idle}

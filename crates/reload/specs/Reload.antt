@@ -1,8 +1,9 @@
 -- A settled device in which Timer 1 alone counts, in mode 2, and its overflow raises no flag: all that happens is its
 -- reload, which may be a tick of a serial port at rest.
-use Prim.Native.Nat.{ℕ, zero, suc, _+_, _%_, _^_, _≤_}
+use Prim.Native.Nat.{ℕ, zero, suc, _+_, _-_, _%_, _^_, _≤_}
 use mathlib.Core.Path.{_≡_}
 use mathlib.Core.Bool.{Bool, cond, _&&_, _||_, not}
+use mathlib.Core.List.{List, [], _∷_}
 use lib.Dec.{eqb}
 use Rattle.machine.specs.declared.Timers.{Timers}
 use Rattle.machine.specs.declared.Serial.{Serial}
@@ -13,11 +14,11 @@ use Rattle.machine.specs.Registers.{RXD, SMOD, TF1, TR2, RCLK, TCLK}
 use Rattle.machine.specs.Record.{serialMode}
 use Rattle.machine.specs.Timers.{timer0Mode, timer1Mode, counts0, counts1, countsHigh0}
 use Rattle.machine.specs.Serial.{halfAfter, ticks1, startFound, withSample}
+use Rattle.machine.specs.Rounds.{roundsOf}
 use Rattle.stretch.specs.Stretch.{lapped}
-use Rattle.strides.specs.Stride.{settledAt, left, usedOf, withParts}
+use Rattle.strides.specs.Stride.{settledAt, withParts}
 use Rattle.reload.specs.declared.Clocking.{Clocking}
-use Rattle.reload.specs.declared.Idling.{Idling}
-use Rattle.reload.specs.declared.IdleRound.{IdleRound}
+use Rattle.reload.specs.declared.Lap.{Lap}
 
 -- Here l is the pin byte as the kind takes it.
 
@@ -46,7 +47,15 @@ idlesAt l d = reloadOnly l d && settledAt l d
 unfoldable pub clocks : ℕ → ℕ → Bool
 clocks scon clock = not (eqb (serialMode scon) 0) && not (eqb clock 1)
 
--- what a reload goes by, and what it works on
+-- what a reload works on
+pub record Idling : Type 0 where
+  pub tl1 : ℕ
+  pub th1 : ℕ
+  pub half : ℕ
+  pub counter : ℕ
+  pub sample : ℕ
+
+-- what it goes by, and these, in a device
 unfoldable pub clockingOf : ℕ → Device → Clocking
 clockingOf l d =
     record {
@@ -115,21 +124,36 @@ unfoldable pub idleCycles : ℕ → Clocking → Idling → Idling
 idleCycles zero k x = x
 idleCycles (suc n) k x = idleCycles n k (idleCycle k x)
 
+-- which of them are busy: the reloads
+unfoldable pub idleMarks : ℕ → Clocking → Idling → List Bool
+idleMarks zero k x = []
+idleMarks (suc n) k x = eqb (x .tl1) 255 ∷ idleMarks n k (idleCycle k x)
+
 -- the device after n cycles
 unfoldable pub idleAt : ℕ → ℕ → Device → Device
 idleAt n l d = putIdling ((d .cycle + n) % 2 ^ 64) (idleCycles n (clockingOf l d) (idlingOf d)) d
+
+-- the rounds of them
+unfoldable pub idleRounds : ℕ → ℕ → Device → ℕ
+idleRounds n l d = roundsOf (idleMarks n (clockingOf l d) (idlingOf d))
 
 -- and the overflows in them: those of Timer 1's n counts over the stretch, in mode 2
 unfoldable pub idleTotals : ℕ → Timers → Totals
 idleTotals n t = record { timer0 = 0; timer1 = lapped n 8 (t .th1) (t .tl1) .overflows; timer2 = 0 }
 
--- the cycles of a round: the reload, or the counts before it
-unfoldable pub usedIdling : ℕ → Idling → ℕ
-usedIdling rest x = usedOf (left 8 (x .tl1)) rest
+-- a round has some of the cycles that are left, ends where these end, and is the first of their rounds
+pub record Rounded (k : Clocking) (x : Idling) (left used : ℕ) (y : Idling) : Type 0 where
+  pub moves : 1 ≤ used
+  pub most : used ≤ left
+  pub reaches : y ≡ idleCycles used k x
+  pub counts : roundsOf (idleMarks left k x) ≡ suc (roundsOf (idleMarks (left - used) k y))
 
--- a round has just these cycles, and ends where they end
-pub record Rounded (k : Clocking) (x : Idling) (left : ℕ) (r : IdleRound) : Type 0 where
-  pub used : r .used ≡ usedIdling left x
-  pub moves : 1 ≤ r .used
-  pub most : r .used ≤ left
-  pub reaches : r .idling ≡ idleCycles (r .used) k x
+-- The same as the code has it: of TL1 and of TH1 what is left of 255
+
+abbrev pub unwound : Lap → Idling
+unwound x = record { tl1 = 255 - x .room; th1 = 255 - x .full; half = x .half; counter = x .counter; sample = x .sample }
+
+pub record Lapped (x : Lap) : Type 0 where
+  pub room : x .room ≤ 255
+  pub full : x .full ≤ 255
+  pub half : x .half ≤ 1

@@ -1,7 +1,7 @@
 // Timer 1 alone counts in a settled device, in mode 2, and its overflow raises no flag: whether it is so, one reload, and
 // n cycles by rounds. `l` is the pin byte as the kind takes it.
 ghost use mathlib.Core.Path.{_≡_};
-ghost use Prim.Native.Nat.{_≤_};
+ghost use Prim.Native.Nat.{_+_, _≤_};
 ghost use Rattle.strides.specs.Stride.{settledAt};
 ghost use Rattle.reload.specs.Reload as Reload;
 use laws::least;
@@ -58,13 +58,13 @@ pub struct Clocking {
     pub receives: bool,
 }
 
-// What it works on: the last line sample, the send counter, half, TH1 and TL1, in the order in which the loop over them is quickest.
-pub struct Idling {
+// What it works on: the last line sample, the send counter and half, and of TL1 the counts before it reloads, now and in a whole lap.
+pub struct Lap {
     pub sample: u8,
     pub counter: u8,
     pub half: u8,
-    pub th1: u8,
-    pub tl1: u8,
+    pub full: u64,
+    pub room: u64,
 }
 
 // Timer 1's overflows clock a direction, whose clock bit is handed in.
@@ -89,12 +89,22 @@ fn clocking_of(d: Device, l: u8) -> Clocking
     }
 }
 
-fn idling_of(d: Device) -> Idling
-    ensures { λ r. ⌜ r ≡ Reload.idlingOf d ⌝ }
+// The counts of TL1 before it reloads.
+fn left_of(tl1: u8) -> u64
+    ensures { λ r. ⌜ r + tl1 ≡ 255 ⌝ }
 {
-    Idling {
-        tl1: d.timers.tl1,
-        th1: d.timers.th1,
+    255 - (tl1 as u64)
+}
+
+fn lap_of(d: Device) -> Lap
+    requires { ⌜ d .serial .half ≤ 1 ⌝ }
+    ensures { λ r. ⌜ (Reload.unwound r ≡ Reload.idlingOf d) × Reload.Lapped r ⌝ }
+{
+    let room = left_of(d.timers.tl1);
+    let full = left_of(d.timers.th1);
+    Lap {
+        room: room,
+        full: full,
         half: d.serial.half,
         counter: d.serial.send.counter,
         sample: d.serial.receive.sample,
@@ -102,16 +112,17 @@ fn idling_of(d: Device) -> Idling
 }
 
 // The reload: half flips with SMOD = 0, a tick adds 1 to the send counter and takes RXD into the last line sample.
-fn reloaded(k: Clocking, x: Idling) -> Idling
-    ensures { λ r. ⌜ r ≡ Reload.reloaded k x ⌝ }
+fn reloaded(k: Clocking, x: Lap) -> Lap
+    requires { ⌜ (k .smod ≤ 1) × Reload.Lapped x ⌝ }
+    ensures { λ r. ⌜ (Reload.unwound r ≡ Reload.reloaded k (Reload.unwound x)) × Reload.Lapped r ⌝ }
 {
-    let tick = ticks::ticks1(k.smod, x.half, 1);
-    let half = ticks::half_after(k.smod, x.half, 1);
+    let tick = x.half | k.smod;
+    let half = x.half ^ (k.smod ^ 1);
     let counter = std::num::wrapping_add_u8(x.counter, picked(k.sends, tick, 0)) & 15;
     let sample = picked(picked(k.receives, tick, 0) == 0, x.sample, k.rxd);
-    Idling {
-        tl1: x.th1,
-        th1: x.th1,
+    Lap {
+        room: x.full,
+        full: x.full,
         half: half,
         counter: counter,
         sample: sample,
@@ -119,12 +130,15 @@ fn reloaded(k: Clocking, x: Idling) -> Idling
 }
 
 // The device with another cycle number and with these.
-fn put_idling(n: u64, x: Idling, d: Device) -> Device
-    ensures { λ r. ⌜ r ≡ Reload.putIdling n x d ⌝ }
+fn put_lap(n: u64, x: Lap, d: Device) -> Device
+    requires { ⌜ Reload.Lapped x ⌝ }
+    ensures { λ r. ⌜ r ≡ Reload.putIdling n (Reload.unwound x) d ⌝ }
 {
+    let tl1 = (255 - x.room) as u8;
+    let th1 = (255 - x.full) as u8;
     let mut e = d;
-    e.timers.tl1 = x.tl1;
-    e.timers.th1 = x.th1;
+    e.timers.tl1 = tl1;
+    e.timers.th1 = th1;
     e.serial.half = x.half;
     e.serial.send.counter = x.counter;
     e.serial.receive.sample = x.sample;
@@ -133,30 +147,29 @@ fn put_idling(n: u64, x: Idling, d: Device) -> Device
 }
 
 // A round passes so many cycles.
-pub struct IdleRound {
+pub struct LapRound {
     pub used: u64,
-    pub idling: Idling,
+    pub lap: Lap,
 }
 
 // One round of the cycles that are left: the reload, or the counts of TL1 before it.
-fn idle_round(k: Clocking, x: Idling, left: u64) -> IdleRound
-    requires { ⌜ 1 ≤ left ⌝ }
-    ensures { λ r. ⌜ Reload.Rounded k x left r ⌝ }
+fn idle_round(k: Clocking, x: Lap, left: u64) -> LapRound
+    requires { ⌜ (1 ≤ left) × (k .smod ≤ 1) × Reload.Lapped x ⌝ }
+    ensures { λ r. ⌜ Reload.Rounded k (Reload.unwound x) left (r .used) (Reload.unwound (r .lap)) × Reload.Lapped (r .lap) ⌝ }
 {
-    let tl1 = x.tl1;
-    if tl1 == 255 {
-        IdleRound {
+    let room = x.room;
+    if room == 0 {
+        LapRound {
             used: 1,
-            idling: reloaded(k, x),
+            lap: reloaded(k, x),
         }
     } else {
-        let used = least(255 - (tl1 as u64), left);
-        let up = tl1 + (used as u8);
-        IdleRound {
+        let used = least(room, left);
+        LapRound {
             used: used,
-            idling: Idling {
-                tl1: up,
-                th1: x.th1,
+            lap: Lap {
+                room: room - used,
+                full: x.full,
                 half: x.half,
                 counter: x.counter,
                 sample: x.sample,
@@ -165,19 +178,31 @@ fn idle_round(k: Clocking, x: Idling, left: u64) -> IdleRound
     }
 }
 
-// The device after n cycles in which Timer 1's reload is all that happens, by rounds.
-pub fn idle(d: Device, l: u8, n: u64) -> Device
-    ensures { λ r. ⌜ r ≡ Reload.idleAt n l d ⌝ }
+// Cycles in which Timer 1's reload is all that happens: how many rounds they took, and the device after them.
+pub struct Idled {
+    pub rounds: u64,
+    pub device: Device,
+}
+
+// n cycles in which Timer 1's reload is all that happens, by rounds, which are counted.
+pub fn idle(d: Device, l: u8, n: u64) -> Idled
+    requires { ⌜ d .serial .half ≤ 1 ⌝ }
+    ensures { λ r. ⌜ (r .rounds ≡ Reload.idleRounds n l d) × (r .device ≡ Reload.idleAt n l d) ⌝ }
 {
     let k = clocking_of(d, l);
-    let mut x = idling_of(d);
+    let mut x = lap_of(d);
     let mut left = n;
+    let mut rounds = 0;
     while 0 < left {
         let r = idle_round(k, x, left);
-        x = r.idling;
+        x = r.lap;
         left -= r.used;
+        rounds += 1;
     }
-    put_idling(std::num::wrapping_add_u64(d.cycle, n), x, d)
+    Idled {
+        rounds: rounds,
+        device: put_lap(std::num::wrapping_add_u64(d.cycle, n), x, d),
+    }
 }
 
 // How often the timers overflow in them: Timer 1 as its n counts over the stretch say, and no other.

@@ -6,7 +6,7 @@ use Prim.Native.Nat.{ℕ}
 use lib.Dec.{eqb}
 use borrow.Author.Tests.{eq-eqb, eqb-true}
 use Rattle.machine.proofs.Choices.{clash, and-left, and-right, and-both}
-use Rattle.strides.specs.Busy.{same}
+use Rattle.machine.specs.Same.{same}
 
 -- lists that are the same are equal
 pub same-equal : (xs ys : List ℕ) → same xs ys ≡ true → xs ≡ ys

@@ -8,7 +8,7 @@ use lib.Dec.{eqb}
 use lib.ListN.{getD, length}
 use Rattle.machine.specs.Bits.{bit}
 use Rattle.machine.specs.Record.{levelsOf}
-use Rattle.strides.specs.Busy.{same}
+use Rattle.machine.specs.Same.{same}
 
 pub same-levels : (saved : List ℕ) (l : ℕ) → length saved ≡ 7
     → same saved (levelsOf l)

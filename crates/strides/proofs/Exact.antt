@@ -25,7 +25,8 @@ use Rattle.machine.proofs.Choices.{by-test, or-left, or-right, or-neither, not-
 use Rattle.laws.proofs.Bits.{flagged-none}
 use Rattle.cycle.proofs.Steps.{cycle-up}
 use Rattle.cycle.proofs.Heard.{tf2-none}
-use Rattle.strides.specs.Busy.{same, overflowed, overflows, working, watched, busy}
+use Rattle.machine.specs.Same.{same}
+use Rattle.machine.specs.Rounds.{overflowed, overflows, working, watched, busy}
 use Rattle.strides.specs.Stride.{startNext, awakeRoom, strideTimers, stride2, strideSerial, awakeStride, room, stride}
 use Rattle.strides.proofs.Bools.{same-equal, same-self}
 use Rattle.strides.proofs.Settles.{seenIn, rest-settled, no-fall, externals-level0, externals-level1}

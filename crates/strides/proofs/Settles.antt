@@ -14,7 +14,7 @@ use Rattle.machine.specs.Power.{poweredDown}
 use Rattle.machine.specs.Record.{levelsOf}
 use Rattle.machine.specs.Interrupts.{external, seenOf}
 use Rattle.machine.specs.Cycle.{falls, externals}
-use Rattle.strides.specs.Busy.{same}
+use Rattle.machine.specs.Same.{same}
 use Rattle.strides.specs.Stride.{levelSettled, timersSettled, startNext, serialSettled, interruptsSettled, othersSettled, settledAt}
 use Rattle.laws.proofs.Bits.{bit-below, bit-set, bit-set-other, bit-put, bit-put-other, clear-put, set-same, put-same}
 use Rattle.machine.proofs.Choices.{chosen, and-two, and-four}

@@ -18,7 +18,7 @@ use Rattle.machine.specs.Timer2.{count2, withCount2, baudRate}
 use Rattle.machine.specs.Serial.{startFound, mode2Ticks, withSample}
 use Rattle.machine.specs.Interrupts.{seenOf}
 use Rattle.machine.specs.Calls.{longest}
-use Rattle.strides.specs.Busy.{same}
+use Rattle.machine.specs.Same.{same}
 
 -- Here l is the pin byte as the kind takes it.
 

@@ -68,7 +68,8 @@ pub fn run_entries(d: Device, entries: &[u32]) -> Run
     while i < entries.len() {
         let e = entries[i];
         let pins = cycle::pins_of(run.device.kind, entry_pins(e));
-        run = jump::advance(run, pins, entry_cycles(e));
+        let a = jump::advance(run, pins, entry_cycles(e));
+        run = a.run;
         i += 1;
     }
     run

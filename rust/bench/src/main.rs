@@ -1,7 +1,8 @@
 //! The benchmark: single cycles, offers, the idle station, a device at rest and in power-down, checkpoints, the 82C53 and the board, a
-//! speed, a frame, and a thousand tags, next to the plain model and to other programs.
+//! speed, a frame, and a thousand tags, next to the plain model and to other programs; and how many tunnels a core carries.
 use bench::others::{emu8051, s51, Figure};
 use bench::plain::Plain;
+use bench::planning::{self, Work, HOUR, STATION};
 use bench::tight::Idle;
 use bench::timing::{race, seconds, Contender};
 use c51::{
@@ -52,6 +53,7 @@ fn main() {
     board(part);
     speed(part);
     one_frame(part);
+    plan_tunnels(part);
     let s51 = s51();
     let emu8051 = emu8051(&std::env::temp_dir());
     others(&s51, &emu8051, per_cycle);
@@ -71,13 +73,6 @@ fn lines(contenders: &[Contender], times: &[f64], pieces: u64, unit: (&str, f64)
         let a_piece = time / pieces as f64 * unit.1;
         println!("  {:<34} {:>12.3} {}  {:>8.2} x {}", contender.name, a_piece, unit.0, time / times[base], contenders[base].name);
     }
-}
-
-/// The idle station: 80C52, serial mode 1, Timer 1 in mode 2, TH1 FD, SMOD 0, asleep.
-fn idle() -> Device {
-    let mut device = Reader::<Board>::new().chips.device;
-    device.jump(PINS_HIGH, 100).expect(PASSES);
-    device
 }
 
 /// All three timers running, serial mode 3 both ways from Timer 2.
@@ -108,8 +103,8 @@ fn frame_pins() -> Vec<u8> {
 
 fn single_cycles(part: u64) {
     for (what, device, pins) in [
-        ("idle station", idle(), vec![PINS_HIGH]),
-        ("a frame arriving", idle(), frame_pins()),
+        ("idle station", planning::idle_station(), vec![PINS_HIGH]),
+        ("a frame arriving", planning::idle_station(), frame_pins()),
         ("all timers running, serial mode 3 by Timer 2", all_running(), vec![PINS_HIGH]),
     ] {
         let rounds = 1_000_000 / part / pins.len() as u64;
@@ -207,13 +202,13 @@ fn offers(part: u64) {
 /// Gives the library's seconds a cycle.
 fn idle_station(part: u64) -> f64 {
     let cycles = 3_000_000 / part;
-    let device = idle();
+    let device = planning::idle_station();
     let model = to_model(&device);
     let mut tight = Idle::of(&device);
-    let rounds = tight.jump(cycles);
+    let by_hand = tight.jump(cycles);
     let mut jumped = device;
-    jumped.jump(PINS_HIGH, cycles).expect(PASSES);
-    assert_eq!(jumped, tight.device(&device), "the loop by hand ends where the library ends");
+    let rounds = jumped.jump(PINS_HIGH, cycles).expect(PASSES).rounds;
+    assert_eq!((jumped, rounds), (tight.device(&device), by_hand), "the loop by hand ends where the library ends, in its rounds");
     let mut contenders = [
         Contender::new("jump in place (c51_jump)", || {
             let mut device = black_box(device);
@@ -493,25 +488,59 @@ fn speed(part: u64) {
     lines(&contenders, &times, rounds * SPEEDS.len() as u64, ("ns", 1e9), 1);
 }
 
-/// Frames one after the other, each read by interrupt.
-fn read_frames<C: Chips>(frames: u64) {
+/// Frames one after the other, each read by interrupt. Gives the rounds of the jumps.
+fn read_frames<C: Chips>(frames: u64) -> u64 {
     let mut reader: Reader<C> = Reader::new();
     reader.hold(Stretch { rxd: 1, cycles: BIT });
+    let before = reader.rounds;
     for number in 0..frames {
         frame(b'0' + (number % 10) as u8, None).into_iter().for_each(|stretch| reader.hold(stretch));
     }
     assert_eq!(reader.take_received().len() as u64, frames);
+    reader.rounds - before
 }
 
 fn one_frame(part: u64) {
     let frames = 1000 / part;
+    let rounds = read_frames::<Board>(frames);
+    assert_eq!(rounds, read_frames::<Plain>(frames), "the library and the model have the same rounds");
     let mut contenders = [
-        Contender::new("library", || read_frames::<Board>(frames)),
-        Contender::new("plain model", || read_frames::<Plain>(frames)),
+        Contender::new("library", || {
+            black_box(read_frames::<Board>(frames));
+        }),
+        Contender::new("plain model", || {
+            black_box(read_frames::<Plain>(frames));
+        }),
     ];
     let times = race(RUNS, &mut contenders);
-    println!("\nA frame of 960 cycles, by wake look and jump, read by interrupt:");
+    println!("\nA frame of 960 cycles in {} rounds, by wake look and jump, read by interrupt:", rounds / frames);
     lines(&contenders, &times, frames, ("us", 1e6), 1);
+}
+
+/// Tags that the time of one is taken of, and jumps within a frame.
+const PLANNED_TAGS: u64 = 1_000;
+const PLANNED_JUMPS: u64 = 1_000;
+
+/// Rounds and times of a tunnel, and how many of them one core carries.
+fn plan_tunnels(part: u64) {
+    let hour = planning::idle(RUNS, HOUR / part).times(part as f64);
+    let tags = PLANNED_TAGS / part;
+    let tag = planning::tags(RUNS, tags).times(1.0 / tags as f64);
+    let frame = planning::in_a_frame(RUNS, PLANNED_JUMPS / part);
+    let row = |name: &str, work: &Work, unit: (&str, f64)| {
+        let Work { cycles, rounds, seconds } = work;
+        println!("  {name:<34} {cycles:>12.0} cycles {rounds:>12.0} rounds {:>12.3} {}", seconds * unit.1, unit.0);
+    };
+    println!("\nPlanning, for tunnels with {CYCLES_A_SECOND} cycles a second:");
+    row("an idle hour", &hour, ("s", 1.0));
+    row("a tag, all its calls included", &tag, ("us", 1e6));
+    for (name, work) in [("the jump's loop, idle", &hour), ("the jump's loop, in a frame", &frame)] {
+        println!("  {name:<34} {:>12.1} million rounds a second, {:.2} ns a round", 1e-6 / work.a_round(), 1e9 * work.a_round());
+    }
+    println!("Tunnels that one core carries in real time, by these times:");
+    for (name, tags_an_hour) in [("idle", 0), ("with a tag every minute", 60), ("with a tag every second", 3_600)] {
+        println!("  {name:<34} {:>12}", planning::tunnels(tags_an_hour, &hour, &tag));
+    }
 }
 
 fn others(s51: &Figure, emu8051: &Figure, per_cycle: f64) {
@@ -523,9 +552,6 @@ fn others(s51: &Figure, emu8051: &Figure, per_cycle: f64) {
         }
     }
 }
-
-/// A station without an 82C53.
-const STATION: usize = 3;
 
 /// The time of `tags` tags at one station.
 fn read_tags<C: Chips>(gap: u64, tags: u64) -> f64 {

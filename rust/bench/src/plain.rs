@@ -1,10 +1,11 @@
 //! The model by other hands as a station's chips. It steps cycle by cycle; what a wake look has stepped, the jump after it takes over, so
 //! that every cycle is stepped once.
-use c51::{Device, Flag, Totals};
+use c51::{Device, Flag, Jump, Totals};
 use c51model::interval::Interval;
 use c51model::model;
 use compare::pair::totals_of;
 use compare::record::of_model;
+use compare::rounds::Rounds;
 use compare::STAGE;
 use station::chips::{Chips, PASSES};
 use std::cell::Cell;
@@ -12,8 +13,8 @@ use std::cell::Cell;
 pub struct Plain {
     device: model::Device,
     timer: Interval,
-    /// Where the last wake look came to: pins, cycles, the device there, and the overflows on the way.
-    ahead: Cell<Option<(u8, u64, model::Device, Totals)>>,
+    /// Where the last wake look came to: pins, cycles, the device there, and the overflows and rounds on the way.
+    ahead: Cell<Option<(u8, u64, model::Device, Jump)>>,
 }
 
 /// A vector, whose high byte is 0.
@@ -46,25 +47,30 @@ impl Chips for Plain {
         self.device.cycle(pins).expect(PASSES)
     }
 
-    fn jump(&mut self, pins: u8, n: u64) -> Totals {
+    fn jump(&mut self, pins: u8, n: u64) -> Jump {
         match self.ahead.take() {
-            Some((held, stepped, device, totals)) if (held, stepped) == (pins, n) => {
+            Some((held, stepped, device, jump)) if (held, stepped) == (pins, n) => {
                 self.device = device;
-                totals
+                jump
             }
-            _ => totals_of(&self.device.jump(pins, n).expect(PASSES)),
+            _ => {
+                let tally = self.device.jump(pins, n).expect(PASSES);
+                Jump { totals: totals_of(&tally), rounds: tally.rounds() }
+            }
         }
     }
 
     fn wake_look(&self, pins: u8, n: u64) -> Option<u64> {
         let mut device = self.device;
-        let mut totals = Totals::default();
+        let (mut totals, mut rounds) = (Totals::default(), Rounds::default());
         let mut k = 0;
         while !is_offered(&device) && k < n {
-            totals += totals_of(&device.jump(pins, 1).expect(PASSES));
+            let tally = device.jump(pins, 1).expect(PASSES);
+            totals += totals_of(&tally);
+            rounds.add(tally.busy == 1);
             k += 1;
         }
-        self.ahead.set(Some((pins, k, device, totals)));
+        self.ahead.set(Some((pins, k, device, Jump { totals, rounds: rounds.count() })));
         is_offered(&device).then_some(k)
     }
 
@@ -92,7 +98,7 @@ impl Chips for Plain {
         self.cycle(pins)
     }
 
-    fn board_jump(&mut self, pins: u8, gates: u8, n: u64) -> Totals {
+    fn board_jump(&mut self, pins: u8, gates: u8, n: u64) -> Jump {
         self.timer.pulses(gates, n).expect(PASSES);
         self.jump(pins, n)
     }

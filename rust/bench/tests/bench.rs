@@ -1,5 +1,6 @@
 //! The benchmark measures what it says: the loop by hand and the plain chip do the library's work, and a missing program stops nothing.
 use bench::plain::Plain;
+use bench::planning::{self, Work, HOUR};
 use bench::tight::Idle;
 use c51::{flag, pcon, Board, Device, MAX_CYCLES, PINS_HIGH};
 use station::reader::Reader;
@@ -13,9 +14,9 @@ fn the_loop_by_hand_is_the_idle_station() {
     before.jump(PINS_HIGH, 10).unwrap();
     for n in (0..200).chain([12_345]) {
         let mut device = before;
-        device.jump(PINS_HIGH, n).unwrap();
+        let rounds = device.jump(PINS_HIGH, n).unwrap().rounds;
         let mut idle = Idle::of(&before);
-        let rounds = idle.jump(n);
+        assert_eq!(idle.jump(n), rounds, "{n} cycles");
         assert_eq!(idle.device(&before), device, "{n} cycles");
         assert!((2 * n / 3..=2 * n / 3 + 1).contains(&rounds), "{rounds} rounds in {n} cycles");
     }
@@ -42,7 +43,7 @@ fn a_device_at_rest_stays_at_rest() {
     }
 }
 
-/// Also at the stations that have an 82C53, whose times are the same; and Timer 1 laps as often.
+/// Also at the stations that have an 82C53, whose times are the same; and Timer 1 laps as often, in as many rounds.
 #[test]
 fn the_plain_chips_read_the_same_tags() {
     let plan = Plan { stations: 3, tags: 6, gap: 5_000, seed: 8, noise: 1, chosen: Vec::new() };
@@ -51,6 +52,31 @@ fn the_plain_chips_read_the_same_tags() {
     assert_eq!((plain.rows, plain.laps), (rows.clone(), laps));
     assert_eq!(rows.iter().filter(|row| matches!(row.time, Some(Time::Took(_)))).count(), 4);
     assert!(rows.iter().all(|row| row.last_digit.is_some_and(|cycle| cycle < row.cycle)), "{rows:?}");
+}
+
+/// What is planned with: two rounds for each lap of an idle hour, every cycle of a frame a round, and a tag of 16 frames, which has a
+/// round for nearly every cycle of them and two for three cycles of the pauses.
+#[test]
+fn what_is_planned_with() {
+    let Work { cycles, rounds, seconds } = planning::idle(1, HOUR / 1_000);
+    assert_eq!((cycles, rounds), (3_317_760.0, 2_211_840.0));
+    assert!(seconds > 0.0);
+    let frame = planning::in_a_frame(1, 10);
+    assert_eq!((frame.cycles, frame.rounds), (7_680.0, 7_680.0));
+    let tag = planning::tags(1, 20).times(1.0 / 20.0);
+    assert!((16.0 * 960.0..16.0 * (960.0 + 2.0 * 96.0)).contains(&tag.cycles), "{tag:?}");
+    assert!((0.93..0.98).contains(&(tag.rounds / tag.cycles)), "{tag:?}");
+}
+
+/// An idle hour of 2 s goes into an hour 1,800 times; where a tag takes 1,000 s in place of an idle tenth of the hour, 1,001.8 s do.
+#[test]
+fn tunnels_in_real_time() {
+    let hour = Work { cycles: HOUR as f64, rounds: 1.0, seconds: 2.0 };
+    let tag = |seconds: f64| Work { cycles: HOUR as f64 / 10.0, rounds: 1.0, seconds };
+    assert_eq!([0, 1, 3].map(|tags| planning::tunnels(tags, &hour, &tag(1_000.0))), [1_800, 3, 1]);
+    assert_eq!([0, 1, 2, 10].map(|tags| planning::tunnels(tags, &hour, &tag(4.2))), [1_800, 600, 360, 85]);
+    let twice = tag(4.2).times(2.0);
+    assert_eq!((twice.cycles, twice.rounds, twice.seconds, twice.a_round()), (HOUR as f64 / 5.0, 2.0, 8.4, 4.2));
 }
 
 #[test]
@@ -82,7 +108,13 @@ fn missing_programs_are_named_and_left_out() {
         "x jump (c51_jump)\n",
         "SMOD and TH1 for a wanted speed:\n  speed (c51_speed) ",
         "x speed, plain model\n  speed, plain model ",
-        "A frame of 960 cycles",
+        "A frame of 960 cycles in 948 rounds, by wake look and jump, read by interrupt:\n  library ",
+        "Planning, for tunnels with 921600 cycles a second:\n  an idle hour                         3317760000 cycles   2211840000 rounds ",
+        " s\n  a tag, all its calls included ",
+        " us\n  the jump's loop, idle ",
+        " ns a round\n  the jump's loop, in a frame ",
+        "Tunnels that one core carries in real time, by these times:\n  idle ",
+        "\n  with a tag every second ",
         "Run time for 1000 tags",
     ] {
         assert!(out.contains(part), "{part}\n{out}");

@@ -6,6 +6,8 @@ use crate::{answer, raw, Board, Device, Interval, Refusal, Totals};
 pub struct BoardJump {
     /// How often each timer of the chip overflowed.
     pub totals: Totals,
+    /// The rounds of the chip, as [`Jump`](crate::Jump) has them: pulses make no cycle busy.
+    pub rounds: u64,
     /// The outputs of the 82C53 as the jump leaves them.
     pub outputs: u8,
 }
@@ -51,6 +53,7 @@ impl Board {
     /// board.interval.write(port::COUNTER1, 0)?; // 65,536
     /// let jumped = board.jump(PINS_HIGH, GATES_HIGH, 65_536)?;
     /// assert_eq!((jumped.totals.timer0, jumped.outputs), (1, 0)); // one of the pulses loads
+    /// assert_eq!(jumped.rounds, 2); // the cycles before the overflow, and that of it
     /// let jumped = board.jump(PINS_HIGH, GATES_HIGH, 1)?;
     /// assert_eq!((jumped.totals.timer0, jumped.outputs), (0, out::OUT1));
     /// assert_eq!(board.device.cycle, 65_537);
@@ -59,6 +62,6 @@ impl Board {
     #[inline]
     pub fn jump(&mut self, pins: u8, gates: u8, n: u64) -> Result<BoardJump, Refusal> {
         let a = raw::c51_board_jump(self, pins, gates, n);
-        answer(a.code, BoardJump { totals: a.totals, outputs: a.outputs })
+        answer(a.code, BoardJump { totals: a.totals, rounds: a.rounds, outputs: a.outputs })
     }
 }

@@ -23,12 +23,14 @@
 mod board;
 mod checkpoint;
 mod interval;
+mod jump;
 pub mod raw;
 mod speed;
 mod totals;
 
 pub use board::BoardJump;
 pub use checkpoint::{CHECKPOINT_51, CHECKPOINT_52};
+pub use jump::Jump;
 pub use raw::{AnswerRow, CallRow, ANSWER_WORDS, CALL_WORDS, NONE};
 pub use raw::{Board, Counter, Interval};
 pub use raw::{Device, FlagTimes, Interrupts, Receiver, Sender, Serial, Timer2, Timers, Totals};
@@ -287,7 +289,8 @@ impl Device {
         answer(a.code, a.line)
     }
 
-    /// n cycles with one pin byte; gives how often each timer overflowed in them. A timer that laps every third cycle:
+    /// n cycles with one pin byte; gives how often each timer overflowed in them, and how many rounds they took. A timer that
+    /// laps every third cycle:
     ///
     /// ```
     /// use c51::{address, Device, Totals, PINS_HIGH};
@@ -297,16 +300,18 @@ impl Device {
     /// device.write(address::TH1, 0xFD)?; // reload
     /// device.write(address::TL1, 0xFE)?; // the first lap is a cycle shorter
     /// device.write(address::TCON, 0x40)?; // run
-    /// assert_eq!(device.jump(PINS_HIGH, 101)?, Totals { timer1: 34, ..Totals::default() });
+    /// let jump = device.jump(PINS_HIGH, 101)?;
+    /// assert_eq!(jump.totals, Totals { timer1: 34, ..Totals::default() });
+    /// assert_eq!(jump.rounds, 2 * 34 + 1); // a run and an overflow a lap, and the cycle that polls TF1 once it rose
     /// # Ok::<(), c51::Refusal>(())
     /// ```
     #[inline]
-    pub fn jump(&mut self, pins: u8, n: u64) -> Result<Totals, Refusal> {
+    pub fn jump(&mut self, pins: u8, n: u64) -> Result<Jump, Refusal> {
         let a = raw::c51_jump(self, pins, n);
-        answer(a.code, a.totals)
+        answer(a.code, Jump { totals: a.totals, rounds: a.rounds })
     }
 
-    /// Runs a trace: in each entry the pin byte on top and the cycles in the low 24 bits. Gives what a jump gives.
+    /// Runs a trace: in each entry the pin byte on top and the cycles in the low 24 bits. Gives how often each timer overflowed.
     pub fn trace(&mut self, entries: &[u32]) -> Result<Totals, Refusal> {
         let a = raw::trace(self, entries);
         answer(a.code, a.totals)
@@ -420,8 +425,9 @@ impl Device {
     /// past them stay as they were.
     ///
     /// The arguments of a call are those of the method, in its order, but of a trace the start and the end of its part
-    /// of `entries`. A jump and a trace give three numbers, the totals of Timers 0, 1 and 2. A refused call gives 0 for each
-    /// number that it would give. It leaves the device, but a refused reset leaves the record of zeros.
+    /// of `entries`. A jump gives four numbers, the totals of Timers 0, 1 and 2 and the rounds, and a trace three, the totals. A
+    /// refused call gives 0 for each number that it would give. It leaves the device, but a refused reset leaves the record of
+    /// zeros.
     ///
     /// ```
     /// use c51::{address, call, Device, ANSWER_WORDS, NONE, PINS_HIGH};
@@ -440,12 +446,12 @@ impl Device {
     /// let mut device = Device::default();
     /// device.replay(&calls, &entries, &mut answers);
     /// assert_eq!(device.cycle, 10_002);
-    /// assert_eq!(answers[..2], [[0, 0, 0, 0, 0]; 2]); // passed
-    /// assert_eq!(answers[2], [0, 3, 0, 0, 0]); // no timer overflows in two cycles
-    /// assert_eq!(answers[3], [0, NONE, 0, 0, 0]); // no flag rises in 100
-    /// assert_eq!(answers[4], [0, 1, 8_190, 0, 0]); // TF0 rises in cycle 8,190
-    /// assert_eq!(answers[5], [0, 3, 1, 0, 0]); // Timer 0 overflows in it, and in no other of 10,000
-    /// assert_eq!(answers[6], [4, 3, 0, 0, 0]); // refused: bit 7 of the pin byte is set
+    /// assert_eq!(answers[..2], [[0, 0, 0, 0, 0, 0]; 2]); // passed
+    /// assert_eq!(answers[2], [0, 3, 0, 0, 0, 0]); // no timer overflows in two cycles
+    /// assert_eq!(answers[3], [0, NONE, 0, 0, 0, 0]); // no flag rises in 100
+    /// assert_eq!(answers[4], [0, 1, 8_190, 0, 0, 0]); // TF0 rises in cycle 8,190
+    /// assert_eq!(answers[5], [0, 4, 1, 0, 0, 5]); // Timer 0 overflows in it, and in no other of 10,000; five rounds
+    /// assert_eq!(answers[6], [4, 4, 0, 0, 0, 0]); // refused: bit 7 of the pin byte is set
     /// ```
     pub fn replay(&mut self, calls: &[CallRow], entries: &[u32], answers: &mut [AnswerRow]) {
         raw::replay(self, calls.as_flattened(), entries, answers.as_flattened_mut());

@@ -196,7 +196,16 @@ pub struct Totals {
     pub timer2: u64,
 }
 
-/// A jump or a trace run.
+/// A jump.
+#[repr(C)]
+#[derive(Clone, Copy, PartialEq, Eq, Debug)]
+pub struct JumpAnswer {
+    pub code: u8,
+    pub totals: Totals,
+    pub rounds: u64,
+}
+
+/// A trace run.
 #[repr(C)]
 #[derive(Clone, Copy, PartialEq, Eq, Debug)]
 pub struct RunAnswer {
@@ -228,6 +237,7 @@ pub struct BoardJumpAnswer {
     pub code: u8,
     pub outputs: u8,
     pub totals: Totals,
+    pub rounds: u64,
 }
 
 /// A speed.
@@ -243,20 +253,20 @@ pub struct SpeedAnswer {
 
 /// The words of a call in a list, and of its answer.
 pub const CALL_WORDS: usize = 3;
-pub const ANSWER_WORDS: usize = 5;
+pub const ANSWER_WORDS: usize = 6;
 /// In place of how many numbers an answer gives: an offer, a look ahead or a wake look that passed and found none.
 pub const NONE: u64 = u64::MAX;
 
 /// A call in a list: its number (see [`call`](crate::call)), and two arguments.
 pub type CallRow = [u64; CALL_WORDS];
-/// An answer in a list: its code, how many numbers it gives or [`NONE`], and the numbers, 0 past those given.
+/// An answer in a list: its code, how many numbers it gives or [`NONE`], and four numbers, 0 past those given.
 pub type AnswerRow = [u64; ANSWER_WORDS];
 
 // Sound as safe functions: the library is proved to answer every content, and a reference is only used during the call.
 unsafe extern "C" {
     pub safe fn c51_write(device: &mut Device, address: u8, value: u8) -> u8;
     pub safe fn c51_cycle(device: &mut Device, pins: u8) -> LineAnswer;
-    pub safe fn c51_jump(device: &mut Device, pins: u8, n: u64) -> RunAnswer;
+    pub safe fn c51_jump(device: &mut Device, pins: u8, n: u64) -> JumpAnswer;
     pub safe fn c51_take(device: &mut Device) -> VectorAnswer;
     pub safe fn c51_return(device: &mut Device) -> u8;
     pub safe fn c51_reset(kind: u8) -> Answer;

@@ -9,8 +9,8 @@ use std::ops::{Add, AddAssign};
 /// let mut device = Device::reset(51)?;
 /// device.write(address::TMOD, 0x02)?; // Timer 0 in mode 2, which overflows in every 256th cycle
 /// device.write(address::TCON, 0x10)?; // run
-/// let runs = [100, 156, 1_000].map(|n| device.jump(PINS_HIGH, n));
-/// let laps: Totals = runs.into_iter().sum::<Result<Totals, c51::Refusal>>()?;
+/// let jumps = [100, 156, 1_000].map(|n| device.jump(PINS_HIGH, n));
+/// let laps: Totals = jumps.into_iter().map(|jump| Ok(jump?.totals)).sum::<Result<Totals, c51::Refusal>>()?;
 /// assert_eq!(laps.timer0, 1_256 / 256);
 /// # Ok::<(), c51::Refusal>(())
 /// ```

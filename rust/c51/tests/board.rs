@@ -2,7 +2,7 @@
 //! pulses and cycles.
 use c51::raw::{c51_board_jump, BoardJumpAnswer};
 use c51::{address, control, flag, gate, out, pcon, port};
-use c51::{Board, BoardJump, Counter, Device, Flag, Interval, Refusal, Totals, GATES_HIGH, MAX_CYCLES, PINS_HIGH};
+use c51::{Board, BoardJump, Counter, Device, Flag, Interval, Jump, Refusal, Totals, GATES_HIGH, MAX_CYCLES, PINS_HIGH};
 
 const MODE0: u8 = control::BOTH | control::MODE0;
 const MODE2: u8 = control::BOTH | control::MODE2;
@@ -415,14 +415,14 @@ fn refusals_of_the_board() {
     assert_eq!(board.jump(PINS_HIGH, 8, MAX_CYCLES + 1), Err(Refusal::BadPins));
     assert_eq!(board.jump(PINS_HIGH, GATES_HIGH, MAX_CYCLES + 1), Err(Refusal::TooLong));
     for (pins, gates, n, code) in [(0x80, 7, 9, 4), (0x7F, 8, 9, 4), (0x7F, 7, MAX_CYCLES + 1, 5)] {
-        let refused = BoardJumpAnswer { code, outputs: 0, totals: Totals::default() };
+        let refused = BoardJumpAnswer { code, outputs: 0, totals: Totals::default(), rounds: 0 };
         assert_eq!(c51_board_jump(&mut board, pins, gates, n), refused, "zeros beside the code");
     }
     assert_eq!(board, given);
 }
 
 /// A cycle of the board is one of the chip and a pulse, and a jump ends as so many of them do. Its totals are those of so
-/// many jumps of 1, and of the chip alone.
+/// many jumps of 1, and its totals and rounds are those of the chip alone.
 #[test]
 fn a_board_jump_is_so_many_board_cycles() {
     for (pins, gates) in [(PINS_HIGH, GATES_HIGH), (0, GATES_HIGH), (PINS_HIGH, 0), (0x55, gate::GATE1), (PINS_HIGH, 0x05)] {
@@ -432,12 +432,13 @@ fn a_board_jump_is_so_many_board_cycles() {
         for n in 0..400 {
             let mut jumped = counting_board();
             let given = jumped.jump(pins, gates, n);
+            let Jump { totals: of_the_chip, rounds } = counting_board().device.jump(pins, n).unwrap();
+            assert_eq!((of_the_chip, rounds), (totals, n), "{n} cycles, pins {pins:02X}: Timer 2 overflows in each");
             assert_eq!(
                 given,
-                Ok(BoardJump { totals, outputs: cycled.interval.outputs() }),
+                Ok(BoardJump { totals, rounds, outputs: cycled.interval.outputs() }),
                 "{n} cycles, pins {pins:02X}, gates {gates}"
             );
-            assert_eq!(counting_board().device.jump(pins, n), Ok(totals), "{n} cycles, pins {pins:02X}");
             assert_eq!(jumped, cycled, "{n} cycles, pins {pins:02X}, gates {gates}");
             let (line, outputs) = cycled.cycle(pins, gates).unwrap();
             assert_eq!((line, outputs), (device.cycle(pins).unwrap(), interval.pulse(gates).unwrap()));
@@ -450,12 +451,31 @@ fn a_board_jump_is_so_many_board_cycles() {
         assert_eq!(cycled.device.last_rise(Flag::Tf0), Some(16), "from FFF0");
     }
     let mut board = Board { device: Device::reset(51).unwrap(), ..counting_board() };
-    assert_eq!(board.jump(PINS_HIGH, GATES_HIGH, MAX_CYCLES).unwrap().totals, Totals::default(), "a chip at rest");
+    let jump = board.jump(PINS_HIGH, GATES_HIGH, MAX_CYCLES).unwrap();
+    assert_eq!((jump.totals, jump.rounds), (Totals::default(), 1), "a chip at rest");
     assert_eq!(board.device.cycle, MAX_CYCLES);
     let mut interval = counting_board().interval;
     interval.jump(GATES_HIGH, MAX_CYCLES / 2).unwrap();
     interval.jump(GATES_HIGH, MAX_CYCLES / 2).unwrap();
     assert_eq!(board.interval, interval);
+}
+
+/// The rounds are the chip's: pulses, outputs that change and gates make none, and a jump of no cycles has none.
+#[test]
+fn pulses_make_no_round() {
+    let mut board = Board { device: Device::reset(52).unwrap(), ..counting_board() };
+    for (n, rounds) in [(0, 0), (1, 1), (7, 1), (1_000, 1)] {
+        for gates in 0..=GATES_HIGH {
+            assert_eq!(board.jump(PINS_HIGH, gates, n).unwrap().rounds, rounds, "{n} cycles, gates {gates}");
+        }
+    }
+    // the idle station: Timer 1 laps every third cycle
+    for (address, value) in [(address::TMOD, 0x20), (address::TH1, 0xFD), (address::TL1, 0xFD), (address::TCON, 0xC0)] {
+        board.device.write(address, value).unwrap();
+    }
+    assert_eq!(board.jump(PINS_HIGH, GATES_HIGH, 3).unwrap().rounds, 3);
+    let jump = board.jump(PINS_HIGH, GATES_HIGH, 99).unwrap();
+    assert_eq!((jump.totals.timer1, jump.rounds), (33, 66));
 }
 
 /// Power-down stops the chip, and neither the pulses nor the calls of the 82C53.
@@ -471,7 +491,7 @@ fn power_down_stops_the_chip_alone() {
         assert_eq!(board.cycle(0, GATES_HIGH), Ok((1, interval.pulse(GATES_HIGH).unwrap())));
     }
     let outputs = interval.jump(GATES_HIGH, MAX_CYCLES).unwrap();
-    assert_eq!(board.jump(0, GATES_HIGH, MAX_CYCLES), Ok(BoardJump { totals: Totals::default(), outputs }));
+    assert_eq!(board.jump(0, GATES_HIGH, MAX_CYCLES), Ok(BoardJump { totals: Totals::default(), rounds: 1, outputs }));
     assert_eq!(board, Board { device, interval });
     assert_eq!(board.interval.read(port::COUNTER1), interval.read(port::COUNTER1));
     board.interval.write(port::CONTROL, control::SELECT1 | control::LATCH).unwrap();

@@ -1,5 +1,5 @@
 /* Every call of the library once from C, with an answer that the bench cards and the table of refusals give; when flags last rose;
- * how often timers overflowed; checkpoints; and lists of calls. */
+ * how often timers overflowed; how many rounds a jump takes; checkpoints; and lists of calls. */
 #include <c51.h>
 #include <stdio.h>
 #include <string.h>
@@ -170,15 +170,16 @@ static void totals(void) {
                                       {C51_TL2, 0xFD},    {C51_T2CON, 0x24},  {0, 0}};
     const uint32_t trace[2] = {0x7F000063u, 0x7F000002u}, bad[2] = {0x7F000063u, 0x7F000000u};
     c51_device given = written(third_card), device = given, jumped = given;
-    c51_run_answer run = c51_jump(&device, C51_PINS_HIGH, 101), rest;
-    check(run.code == C51_PASSED && are(run.totals, 0, 34, 0) && device.timers.tl1 == 0xFD, "34 overflows in 101 cycles");
-    run = c51_jump(&jumped, C51_PINS_HIGH, 1);
+    c51_jump_answer jump = c51_jump(&device, C51_PINS_HIGH, 101), rest;
+    c51_run_answer run;
+    check(jump.code == C51_PASSED && are(jump.totals, 0, 34, 0) && device.timers.tl1 == 0xFD, "34 overflows in 101 cycles");
+    jump = c51_jump(&jumped, C51_PINS_HIGH, 1);
     rest = c51_jump(&jumped, C51_PINS_HIGH, 100);
-    check(are(run.totals, 0, 0, 0) && are(rest.totals, 0, 34, 0) && same(&jumped, &device), "a jump of 1 and one of 100");
+    check(are(jump.totals, 0, 0, 0) && are(rest.totals, 0, 34, 0) && same(&jumped, &device), "a jump of 1 and one of 100");
     jumped = given;
-    run = c51_jump(&jumped, C51_PINS_HIGH, 50);
+    jump = c51_jump(&jumped, C51_PINS_HIGH, 50);
     rest = c51_jump(&jumped, C51_PINS_HIGH, 51);
-    check(are(run.totals, 0, 17, 0) && are(rest.totals, 0, 17, 0) && same(&jumped, &device), "jumps of 50 and 51");
+    check(are(jump.totals, 0, 17, 0) && are(rest.totals, 0, 17, 0) && same(&jumped, &device), "jumps of 50 and 51");
     jumped = given;
     run = c51_trace(&jumped, trace, 2);
     check(run.code == C51_PASSED && are(run.totals, 0, 34, 0) && same(&jumped, &device), "entries of 99 and 2 cycles");
@@ -186,20 +187,20 @@ static void totals(void) {
     jumped = given;
     check(are(c51_jump(&jumped, C51_PINS_HIGH, 0).totals, 0, 0, 0) && same(&jumped, &given), "an empty jump");
     check(are(c51_trace(&jumped, trace, 0).totals, 0, 0, 0) && same(&jumped, &given), "an empty trace");
-    run = c51_jump(&jumped, 0x80, 101);
-    check(run.code == C51_BAD_PINS && are(run.totals, 0, 0, 0), "totals of a jump refused by 4");
-    run = c51_jump(&jumped, C51_PINS_HIGH, C51_MAX_CYCLES + 1);
-    check(run.code == C51_TOO_LONG && are(run.totals, 0, 0, 0), "totals of a jump refused by 5");
+    jump = c51_jump(&jumped, 0x80, 101);
+    check(jump.code == C51_BAD_PINS && are(jump.totals, 0, 0, 0), "totals of a jump refused by 4");
+    jump = c51_jump(&jumped, C51_PINS_HIGH, C51_MAX_CYCLES + 1);
+    check(jump.code == C51_TOO_LONG && are(jump.totals, 0, 0, 0), "totals of a jump refused by 5");
     run = c51_trace(&jumped, bad, 2);
     check(run.code == C51_EMPTY_ENTRY && are(run.totals, 0, 0, 0) && same(&jumped, &given), "totals of a trace refused by 8");
     jumped.kind = 0;
-    run = c51_jump(&jumped, C51_PINS_HIGH, 101);
-    check(run.code == C51_BAD_RECORD && are(run.totals, 0, 0, 0), "totals of a jump refused by 1");
+    jump = c51_jump(&jumped, C51_PINS_HIGH, 101);
+    check(jump.code == C51_BAD_RECORD && are(jump.totals, 0, 0, 0), "totals of a jump refused by 1");
     jumped = given;
     check(c51_write(&jumped, C51_PCON, C51_PCON_PD) == C51_PASSED, "power-down");
-    run = c51_jump(&jumped, C51_PINS_HIGH, 101);
-    rest = c51_trace(&jumped, trace, 2);
-    check(run.code == C51_PASSED && are(run.totals, 0, 0, 0) && are(rest.totals, 0, 0, 0), "totals in power-down");
+    jump = c51_jump(&jumped, C51_PINS_HIGH, 101);
+    run = c51_trace(&jumped, trace, 2);
+    check(jump.code == C51_PASSED && are(jump.totals, 0, 0, 0) && are(run.totals, 0, 0, 0), "totals in power-down");
 
     device = written(mode_3);
     check(are(c51_jump(&device, C51_PINS_HIGH, 1).totals, 2, 0, 0), "TL0 and TH0 overflow in one cycle");
@@ -207,6 +208,54 @@ static void totals(void) {
     device = written(baud);
     check(are(c51_jump(&device, C51_PINS_HIGH, 1).totals, 0, 0, 2), "two overflows of Timer 2 in a cycle");
     check(are(c51_jump(&device, C51_PINS_HIGH, 1000).totals, 0, 0, 2000), "and in each of 1,000");
+}
+
+/* Whether a jump of n cycles with all pins high passes in so many rounds. */
+static int takes(c51_device *device, uint64_t n, uint64_t rounds) {
+    c51_jump_answer jump = c51_jump(device, C51_PINS_HIGH, n);
+    return jump.code == C51_PASSED && jump.rounds == rounds;
+}
+
+static void rounds(void) {
+    /* The idle station: Timer 1 laps every third cycle, TF1 being up. */
+    static const uint8_t station[][2] = {{C51_TMOD, 0x20}, {C51_TH1, 0xFD},  {C51_TL1, 0xFD},
+                                         {C51_SCON, 0x50}, {C51_TCON, 0xC0}, {0, 0}};
+    /* A byte to send in serial mode 1, Timer 1 standing. */
+    static const uint8_t waiting[][2] = {{C51_SCON, 0x40}, {C51_SBUF, 0x35}, {0, 0}};
+    c51_device reset = c51_reset(52).device, device = reset, settled;
+    c51_jump_answer jump;
+    uint64_t n;
+    check(takes(&device, 0, 0) && takes(&device, 1000, 1) && takes(&device, 1, 1), "a device at rest");
+    check(takes(&device, C51_MAX_CYCLES, 1) && device.cycle == C51_MAX_CYCLES + 1001, "the longest jump");
+    jump = c51_jump(&device, C51_PINS_HIGH & ~C51_PIN_RXD, 1000);
+    check(jump.code == C51_PASSED && jump.rounds == 2, "the cycle in which RXD falls, and the run after it");
+
+    device = written(station);
+    check(takes(&device, 3, 3), "TF1 is seen, TF1 is polled, Timer 1 overflows");
+    settled = device;
+    jump = c51_jump(&device, C51_PINS_HIGH, 99);
+    check(jump.code == C51_PASSED && are(jump.totals, 0, 33, 0) && jump.rounds == 66, "two rounds a lap");
+    for (n = 0; n < 30; n++) {
+        device = settled;
+        check(takes(&device, n, n / 3 * 2 + (n % 3 > 0)), "so many cycles of the idle station");
+    }
+    device = settled;
+    check(takes(&device, 1, 1) && takes(&device, 2, 2), "a run that two jumps cut is a round in each");
+
+    device = written(waiting);
+    check(takes(&device, 1, 1) && takes(&device, 1000, 1000) && device.serial.send.position == 1, "each cycle of a frame that waits");
+
+    check(c51_write(&device, C51_PCON, C51_PCON_PD) == C51_PASSED, "power-down");
+    check(takes(&device, 1, 1) && takes(&device, C51_MAX_CYCLES, 1) && takes(&device, 0, 0), "power-down is one run");
+
+    device = settled;
+    jump = c51_jump(&device, 0x80, 99);
+    check(jump.code == C51_BAD_PINS && jump.rounds == 0, "rounds of a jump refused by 4");
+    jump = c51_jump(&device, C51_PINS_HIGH, C51_MAX_CYCLES + 1);
+    check(jump.code == C51_TOO_LONG && jump.rounds == 0 && same(&device, &settled), "rounds of a jump refused by 5");
+    device.kind = 0;
+    jump = c51_jump(&device, C51_PINS_HIGH, 99);
+    check(jump.code == C51_BAD_RECORD && jump.rounds == 0, "rounds of a jump refused by 1");
 }
 
 /* Whether a file is refused by this code, and gives a record all zero. */
@@ -326,8 +375,9 @@ static const called interrupt[] = {
     {{C51_CALL_WAKE, C51_PINS_HIGH, C51_MAX_CYCLES + 1}, {C51_TOO_LONG, 1, 0}},
     {{C51_CALL_CYCLE, C51_PINS_HIGH, 0}, {C51_PASSED, 1, 1}},
     {{C51_CALL_CYCLE, 0x80, 0}, {C51_BAD_PINS, 1, 0}},
-    {{C51_CALL_JUMP, C51_PINS_HIGH, C51_MAX_CYCLES + 1}, {C51_TOO_LONG, 3, 0, 0, 0}},
-    {{C51_CALL_JUMP, C51_PINS_HIGH, 1}, {C51_PASSED, 3, 1, 0, 0}},
+    {{C51_CALL_JUMP, C51_PINS_HIGH, C51_MAX_CYCLES + 1}, {C51_TOO_LONG, 4, 0, 0, 0, 0}},
+    {{C51_CALL_JUMP, C51_PINS_HIGH, 0}, {C51_PASSED, 4, 0, 0, 0, 0}},
+    {{C51_CALL_JUMP, C51_PINS_HIGH, 1}, {C51_PASSED, 4, 1, 0, 0, 1}},
     {{C51_CALL_OFFER, 0, 0}, {C51_PASSED, C51_NONE, 0}},
     {{C51_CALL_TRACE, 0, 2}, {C51_EMPTY_ENTRY, 3, 0, 0, 0}},
     {{C51_CALL_TRACE, 1, 2}, {C51_PASSED, 3, 0, 0, 0}},
@@ -342,7 +392,7 @@ static const called interrupt[] = {
     {{C51_CALL_WRITE, C51_PCON, 0}, {C51_POWERED_DOWN, 0, 0}},
     {{C51_CALL_TAKE, 0, 0}, {C51_POWERED_DOWN, 1, 0}},
     {{C51_CALL_RETURN, 0, 0}, {C51_POWERED_DOWN, 0, 0}},
-    {{C51_CALL_JUMP, C51_PINS_HIGH, C51_MAX_CYCLES}, {C51_PASSED, 3, 0, 0, 0}},
+    {{C51_CALL_JUMP, C51_PINS_HIGH, C51_MAX_CYCLES}, {C51_PASSED, 4, 0, 0, 0, 1}},
     {{C51_CALL_CYCLE, C51_PINS_HIGH, 0}, {C51_PASSED, 1, 1}},
     {{C51_CALL_WAKE, C51_PINS_HIGH, 0}, {C51_PASSED, C51_NONE, 0}},
 };
@@ -460,13 +510,15 @@ static void boards(void) {
     check(cycle.code == C51_BAD_PINS && cycle.line == 0 && cycle.outputs == 0, "board cycle refused by its gates");
     check(c51_board_jump(&board, C51_PINS_HIGH, 8, C51_MAX_CYCLES + 1).code == C51_BAD_PINS, "board jump refused, 4 before 5");
     jump = c51_board_jump(&board, C51_PINS_HIGH, C53_GATES_HIGH, C51_MAX_CYCLES + 1);
-    check(jump.code == C51_TOO_LONG && jump.outputs == 0 && are(jump.totals, 0, 0, 0), "board jump refused");
+    check(jump.code == C51_TOO_LONG && jump.outputs == 0 && are(jump.totals, 0, 0, 0) && jump.rounds == 0, "board jump refused");
     check(same(&board.device, &before.device) && same_interval(&board.interval, &before.interval), "a refusal leaves both chips");
 
     for (i = 0; i < 1000; i++) cycle = c51_board_cycle(&board, C51_PINS_HIGH, C53_GATES_HIGH);
     check(cycle.code == C51_PASSED && cycle.line == 1 && cycle.outputs == 0, "cycle 1,000 of the board");
+    check(c51_board_jump(&jumped, C51_PINS_HIGH, C53_GATES_HIGH, 0).rounds == 0, "no round in no cycle of the board");
     jump = c51_board_jump(&jumped, C51_PINS_HIGH, C53_GATES_HIGH, 1000);
     check(jump.code == C51_PASSED && jump.outputs == 0 && are(jump.totals, 3, 0, 0), "a jump of the board");
+    check(jump.rounds == 3 + 1 + 4, "three overflows, the cycle that polls TF0, and the four runs between them");
     check(same(&board.device, &jumped.device) && same_interval(&board.interval, &jumped.interval), "and it ends as the cycles do");
 
     check(c51_write(&board.device, C51_PCON, C51_PCON_PD) == C51_PASSED, "power-down on a board");
@@ -475,6 +527,7 @@ static void boards(void) {
     check(cycle.code == C51_PASSED && cycle.line == 1 && cycle.outputs == C53_OUT0, "the 82C53 goes on");
     jump = c51_board_jump(&board, 0, C53_GATES_HIGH, 4);
     check(jump.code == C51_PASSED && jump.outputs == 0 && are(jump.totals, 0, 0, 0), "by jumps too, in which the chip's timers stand");
+    check(jump.rounds == 1, "and pulses make no round");
     check(c53_write(&board.interval, C53_COUNTER0, 9) == C51_PASSED && board.interval.counter0.waiting == 9, "and so do its calls");
     check(same(&board.device, &before.device), "and the chip stays");
 
@@ -520,6 +573,7 @@ int main(void) {
     calls();
     rises();
     totals();
+    rounds();
     checkpoints();
     lists();
     intervals();

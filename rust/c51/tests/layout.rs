@@ -58,6 +58,7 @@ fn places() -> Vec<Place> {
         "c51_look_answer" LookAnswer 16 { code 0, found 1, at 8 }
         "c51_totals" Totals 24 { timer0 0, timer1 8, timer2 16 }
         "c51_run_answer" RunAnswer 32 { code 0, totals 8, totals.timer2 24 }
+        "c51_jump_answer" JumpAnswer 40 { code 0, totals 8, totals.timer2 24, rounds 32 }
         "c53_counter" Counter 20 {
             mode 0, bcd 1, format 2, output 3, gate 4, loaded 5, waits 6, first 7, low 8, high 9, latched 10,
             count 12, reload 14, waiting 16, latch 18
@@ -66,7 +67,7 @@ fn places() -> Vec<Place> {
         "c51_board" Board 192 { device 0, device.cycle 48, device.times.number 64, interval 128, interval.counter2.latch 186 }
         "c53_outputs_answer" OutputsAnswer 2 { code 0, outputs 1 }
         "c51_board_answer" BoardAnswer 3 { code 0, line 1, outputs 2 }
-        "c51_board_jump_answer" BoardJumpAnswer 32 { code 0, outputs 1, totals 8, totals.timer2 24 }
+        "c51_board_jump_answer" BoardJumpAnswer 40 { code 0, outputs 1, totals 8, totals.timer2 24, rounds 32 }
         "c51_speed_answer" SpeedAnswer 16 { code 0, found 1, smod 2, th1 3, achieved 8 }
     }
 }

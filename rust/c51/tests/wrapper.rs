@@ -1,7 +1,7 @@
 //! The wrapper: each refusal that a call can meet, what a refused call leaves, the values of each call, when flags last
-//! rose, and how often timers overflowed.
-use c51::raw::{self, RunAnswer};
-use c51::{address, call, flag, pcon, pin, AnswerRow, Board, Device, Flag, FlagTimes, Refusal, Totals};
+//! rose, how often timers overflowed, and how many rounds jumps took.
+use c51::raw::{self, JumpAnswer, RunAnswer};
+use c51::{address, call, flag, pcon, pin, AnswerRow, Board, Device, Flag, FlagTimes, Jump, Refusal, Totals};
 use c51::{ANSWER_WORDS, CALL_WORDS, GATES_HIGH, MAX_CYCLES, MAX_TRACE, NONE, PINS_HIGH};
 
 /// Writes, each as an address and a value.
@@ -495,9 +495,9 @@ fn a_list_of_every_call() {
         ([call::WAKE, 0x100 | pins, MAX_CYCLES], answer([0, 1, 3])),
         ([call::WAKE, 0x80, 0], answer([Refusal::BadPins as u64, 1])),
         ([call::CYCLE, pins, 0], answer([0, 1, 1])),
-        ([call::JUMP, pins, MAX_CYCLES + 1], answer([Refusal::TooLong as u64, 3])),
-        ([call::JUMP, pins, 1], answer([0, 3, 1])),
-        ([call::JUMP, pins, 0], answer([0, 3])),
+        ([call::JUMP, pins, MAX_CYCLES + 1], answer([Refusal::TooLong as u64, 4])),
+        ([call::JUMP, pins, 1], answer([0, 4, 1, 0, 0, 1])),
+        ([call::JUMP, pins, 0], answer([0, 4])),
         ([call::READ, address::TCON.into(), 0], answer([0, 1, 0x30])),
         ([call::OFFER, 0, 0], answer([0, NONE])),
         ([call::TRACE, 0, 1], answer([Refusal::BadPins as u64, 3])),
@@ -528,7 +528,7 @@ fn a_list_of_every_call() {
         ([call::TAKE, 0, 0], answer([refused, 1])),
         ([call::RETURN, 0, 0], answer([refused, 0])),
         ([call::WAKE, pins, MAX_CYCLES], answer([0, NONE])),
-        ([call::JUMP, pins, MAX_CYCLES], answer([0, 3])),
+        ([call::JUMP, pins, MAX_CYCLES], answer([0, 4, 0, 0, 0, 1])),
         ([call::CYCLE, pins, 0], answer([0, 1, 1])),
     ];
     device.replay(&asleep.map(|(call, _)| call), &[], &mut answers[..7]);
@@ -586,27 +586,35 @@ fn the_part_of_a_trace() {
     }
 }
 
-/// The totals of a run in every way: as a jump, in a list, on a board, and in parts, which add up: a trace of two
-/// entries, two jumps, and jumps of 1 where it is short.
-fn overflows(given: Device, pins: u8, n: u64) -> Totals {
+/// A jump in every way: by itself, in a list, on a board, and in parts, whose totals add up: a trace of two entries, two
+/// jumps, and jumps of 1 where it is short. Two jumps have its rounds, or one more where they cut a run; jumps of 1 have one
+/// each.
+fn jumped(given: Device, pins: u8, n: u64) -> Jump {
     let mut device = given;
-    let totals = device.jump(pins, n).unwrap();
-    let same = |way: &str, given: Totals, left: Device| assert_eq!((given, left), (totals, device), "{n} cycles by {way}");
+    let jump = device.jump(pins, n).unwrap();
+    let same = |way: &str, given: Totals, left: Device| assert_eq!((given, left), (jump.totals, device), "{n} cycles by {way}");
     let parts = [n / 3, n - n / 3];
     let entries = parts.iter().filter(|&&part| part > 0).map(|&part| u32::from(pins) << 24 | part as u32);
     let [mut traced, mut listed, mut parted, mut by_ones] = [given; 4];
     same("a trace", traced.trace(&entries.collect::<Vec<u32>>()).unwrap(), traced);
     let mut rows = [[7; ANSWER_WORDS]; 1];
     listed.replay(&[[call::JUMP, pins.into(), n]], &[], &mut rows);
-    let [0, 3, timer0, timer1, timer2] = rows[0] else { panic!("{rows:?}") };
+    let [0, 4, timer0, timer1, timer2, rounds] = rows[0] else { panic!("{rows:?}") };
     same("a list", Totals { timer0, timer1, timer2 }, listed);
     let mut board = Board { device: given, ..Board::reset(52).unwrap() };
-    same("a board", board.jump(pins, GATES_HIGH, n).unwrap().totals, board.device);
-    same("two jumps", parts.iter().map(|&part| parted.jump(pins, part).unwrap()).sum(), parted);
+    let on_a_board = board.jump(pins, GATES_HIGH, n).unwrap();
+    same("a board", on_a_board.totals, board.device);
+    assert_eq!([rounds, on_a_board.rounds], [jump.rounds; 2], "rounds of {n} cycles in a list and on a board");
+    let jumps = parts.map(|part| parted.jump(pins, part).unwrap());
+    same("two jumps", jumps.iter().map(|part| part.totals).sum(), parted);
+    let rounds: u64 = jumps.iter().map(|part| part.rounds).sum();
+    assert!((jump.rounds..=jump.rounds + 1).contains(&rounds), "{rounds} in two jumps, {} in one", jump.rounds);
     if n < 10_000 {
-        same("jumps of 1", (0..n).map(|_| by_ones.jump(pins, 1).unwrap()).sum(), by_ones);
+        let jumps: Vec<Jump> = (0..n).map(|_| by_ones.jump(pins, 1).unwrap()).collect();
+        same("jumps of 1", jumps.iter().map(|part| part.totals).sum(), by_ones);
+        assert!(jumps.iter().all(|part| part.rounds == 1), "{n} jumps of 1");
     }
-    totals
+    jump
 }
 
 /// Timers 0 and 1 by their modes: what is written, pins, cycles, and the overflows in them.
@@ -639,20 +647,32 @@ fn totals_of_timers_0_and_1() {
     for kind in [51, 52] {
         for (writes, pins, n, [timer0, timer1]) in runs {
             assert_eq!(
-                overflows(written(kind, writes), pins, n),
+                jumped(written(kind, writes), pins, n).totals,
                 Totals { timer0, timer1, timer2: 0 },
                 "{n} cycles after {writes:02X?}"
             );
         }
     }
     let mut silent = written(52, &[(TMOD, 0x23), (TH1, 0xFF), (TL1, 0xFF)]);
-    assert_eq!((silent.jump(PINS_HIGH, 9).unwrap().timer1, silent.timers.tcon), (9, 0), "no flag is set");
+    assert_eq!((silent.jump(PINS_HIGH, 9).unwrap().totals.timer1, silent.timers.tcon), (9, 0), "no flag is set");
+}
+
+/// The rounds of cycles that are busy or not: one for each that is, and one for each longest run of those that are not.
+fn rounds_of(cycles: impl Iterator<Item = bool>) -> u64 {
+    let mut rounds = 0;
+    let mut in_a_run = false;
+    for busy in cycles {
+        rounds += u64::from(busy || !in_a_run);
+        in_a_run = !busy;
+    }
+    rounds
 }
 
 /// An idle station, with TF1 up: whatever the reload of Timer 1 and wherever in its lap a run begins, the laps up to its
-/// end less those up to its beginning. Laps by division of its own length would lose the first one, which is short.
+/// end less those up to its beginning. Laps by division of its own length would lose the first one, which is short. The last
+/// cycle of each lap is busy, and no other is.
 #[test]
-fn totals_of_an_idle_station() {
+fn an_idle_station() {
     for reload in [0x00, 0xF9, 0xFD, 0xFE, 0xFF] {
         let lap = 0x100 - u64::from(reload);
         let timer_1 = [(address::TMOD, 0x20), (address::TH1, reload), (address::TL1, reload), (address::TCON, 0x40)];
@@ -662,8 +682,9 @@ fn totals_of_an_idle_station() {
         for _ in 0..7 {
             for n in (0..100).chain([1_000_000]) {
                 let laps = (device.cycle + n) / lap - device.cycle / lap;
-                let expected = Totals { timer1: laps, ..Totals::default() };
-                assert_eq!(overflows(device, PINS_HIGH, n), expected, "{n} cycles, reload {reload:02X}");
+                let totals = Totals { timer1: laps, ..Totals::default() };
+                let rounds = rounds_of((1..=n).map(|cycle| (device.cycle + cycle) % lap == 0));
+                assert_eq!(jumped(device, PINS_HIGH, n), Jump { totals, rounds }, "{n} cycles, reload {reload:02X}");
             }
             device.cycle(PINS_HIGH).unwrap();
         }
@@ -674,7 +695,7 @@ fn totals_of_an_idle_station() {
 #[test]
 fn totals_of_timer_2() {
     let timer2 = |device: Device, pins: u8, n: u64| {
-        let totals = overflows(device, pins, n);
+        let totals = jumped(device, pins, n).totals;
         assert_eq!((totals.timer0, totals.timer1), (0, 0));
         totals.timer2
     };
@@ -699,31 +720,105 @@ fn totals_of_timer_2() {
     assert_eq!((reloaded.timer2.th2, reloaded.timer2.tl2, reloaded.timer2.t2con & flag::EXF2), (0xFF, 0xF0, flag::EXF2));
 }
 
-/// An empty jump or trace, power-down, and each refusal: three zeros, also where a timer is about to overflow.
+/// An empty jump or trace, power-down, and each refusal: zeros, also where a timer is about to overflow; but power-down and a
+/// device at rest are one round, of any length.
 #[test]
-fn totals_that_are_zeros() {
+fn answers_that_are_zeros() {
     let mut device = written(52, &[(address::TMOD, 0x22), (address::TL0, 0xFF), (address::TL1, 0xFF), (address::TCON, 0x50)]);
     let about = device;
-    assert_eq!((device.jump(PINS_HIGH, 0), device.trace(&[])), (Ok(Totals::default()), Ok(Totals::default())));
-    let refused = |code: Refusal| RunAnswer { code: code.code(), totals: Totals::default() };
-    assert_eq!(raw::c51_jump(&mut device, 0x80, 1), refused(Refusal::BadPins));
-    assert_eq!(raw::c51_jump(&mut device, PINS_HIGH, MAX_CYCLES + 1), refused(Refusal::TooLong));
-    assert_eq!(raw::trace(&mut device, &[0x7F00_0001, 0x8000_0001]), refused(Refusal::BadPins));
-    assert_eq!(raw::trace(&mut device, &[0x7F00_0001, 0x7F00_0000]), refused(Refusal::EmptyEntry));
-    assert_eq!(raw::trace(&mut device, &vec![0x7F00_0001; MAX_TRACE + 1]), refused(Refusal::TooLong));
+    const ZEROS: Totals = Totals { timer0: 0, timer1: 0, timer2: 0 };
+    assert_eq!((device.jump(PINS_HIGH, 0), device.trace(&[])), (Ok(Jump { totals: ZEROS, rounds: 0 }), Ok(ZEROS)));
+    let jump_refused = |code: Refusal| JumpAnswer { code: code.code(), totals: ZEROS, rounds: 0 };
+    let trace_refused = |code: Refusal| RunAnswer { code: code.code(), totals: ZEROS };
+    assert_eq!(raw::c51_jump(&mut device, 0x80, 1), jump_refused(Refusal::BadPins));
+    assert_eq!(raw::c51_jump(&mut device, PINS_HIGH, MAX_CYCLES + 1), jump_refused(Refusal::TooLong));
+    assert_eq!(raw::trace(&mut device, &[0x7F00_0001, 0x8000_0001]), trace_refused(Refusal::BadPins));
+    assert_eq!(raw::trace(&mut device, &[0x7F00_0001, 0x7F00_0000]), trace_refused(Refusal::EmptyEntry));
+    assert_eq!(raw::trace(&mut device, &vec![0x7F00_0001; MAX_TRACE + 1]), trace_refused(Refusal::TooLong));
     assert_eq!(device, about);
     let mut bad = Device { kind: 53, ..about };
     assert_eq!(
         (raw::c51_jump(&mut bad, PINS_HIGH, 1), raw::trace(&mut bad, &[])),
-        (refused(Refusal::BadRecord), refused(Refusal::BadRecord))
+        (jump_refused(Refusal::BadRecord), trace_refused(Refusal::BadRecord))
     );
     let mut down = about;
     down.write(address::PCON, pcon::PD).unwrap();
-    assert_eq!(down.jump(PINS_HIGH, MAX_CYCLES), Ok(Totals::default()), "power-down");
-    assert_eq!(down.trace(&[0x7FFF_FFFF; 9]), Ok(Totals::default()), "power-down");
     let mut rest = Device::reset(51).unwrap();
-    assert_eq!(rest.jump(PINS_HIGH, MAX_CYCLES), Ok(Totals::default()), "at rest");
-    assert_eq!(device.jump(PINS_HIGH, 1), Ok(Totals { timer0: 1, timer1: 1, timer2: 0 }), "the very next cycle has two");
+    for n in [1, 2, 1_000, MAX_CYCLES] {
+        assert_eq!(down.jump(PINS_HIGH, n), Ok(Jump { totals: ZEROS, rounds: 1 }), "power-down");
+        assert_eq!(rest.jump(PINS_HIGH, n), Ok(Jump { totals: ZEROS, rounds: 1 }), "at rest");
+    }
+    assert_eq!(down.jump(0, 0).unwrap().rounds + rest.jump(PINS_HIGH, 0).unwrap().rounds, 0);
+    assert_eq!(down.trace(&[0x7FFF_FFFF; 9]), Ok(ZEROS), "power-down");
+    let totals = Totals { timer0: 1, timer1: 1, timer2: 0 };
+    assert_eq!(device.jump(PINS_HIGH, 1), Ok(Jump { totals, rounds: 1 }), "the very next cycle has two");
+}
+
+/// What makes a cycle busy: what is written, pins, and which of the first twelve cycles from reset are busy. A jump over any of
+/// them in a row has their rounds.
+#[test]
+fn what_makes_a_round() {
+    use address::{RCAP2H, RCAP2L, SBUF, SCON, T2CON, TCON, TH0, TH1, TH2, TL0, TL1, TL2, TMOD};
+    const RXD_LOW: u8 = PINS_HIGH & !pin::RXD;
+    let cases: [(&str, &Writes, u8, &str); 21] = [
+        ("nothing", &[], PINS_HIGH, "............"),
+        // a saved level; of T0 a due mark too, which is cleared in the next cycle, whether a counter runs or not
+        ("RXD falls", &[], RXD_LOW, "#..........."),
+        ("T0 falls", &[], PINS_HIGH & !pin::T0, "##.........."),
+        ("T1 falls", &[], PINS_HIGH & !pin::T1, "##.........."),
+        ("T2 falls", &[], PINS_HIGH & !pin::T2, "##.........."),
+        // a flag that rises or is written, seen and polled after it
+        ("IE0 by its level", &[], PINS_HIGH & !pin::INT0, "##.........."),
+        ("TF0 written", &[(TCON, 0x20)], PINS_HIGH, "##.........."),
+        ("IE1 written, and cleared by its level", &[(TCON, 0x08)], PINS_HIGH, "#..........."),
+        ("EXF2", &[(T2CON, 0x0C)], PINS_HIGH & !pin::T2EX, "##.........."),
+        // overflows: TF1 is up from the first on; TF2 is polled in its own cycle
+        ("Timer 0 in mode 1", &[(TMOD, 0x01), (TH0, 0xFF), (TL0, 0xFD), (TCON, 0x10)], PINS_HIGH, "..##........"),
+        ("Timer 1 in mode 2", &[(TMOD, 0x20), (TH1, 0xFC), (TL1, 0xFC), (TCON, 0x40)], PINS_HIGH, "...##..#...#"),
+        ("Timer 1, silent", &[(TMOD, 0x23), (TH1, 0xFE), (TL1, 0xFE)], PINS_HIGH, ".#.#.#.#.#.#"),
+        ("TH0 in mode 3", &[(TMOD, 0x33), (TH0, 0xFE), (TCON, 0xC0)], PINS_HIGH, "##.........."),
+        ("Timer 2, captures", &[(TH2, 0xFF), (TL2, 0xFD), (T2CON, 0x05)], PINS_HIGH, "..#........."),
+        (
+            "Timer 2 for the serial port, six counts a cycle",
+            &[(RCAP2H, 0xFF), (RCAP2L, 0xEE), (TH2, 0xFF), (TL2, 0xEE), (T2CON, 0x34)],
+            PINS_HIGH,
+            "..#..#..#..#",
+        ),
+        // a serial position: a frame of serial mode 0 and the poll after it, and one that waits on a stopped clock
+        ("a byte sent in mode 0", &[(SBUF, 0x35)], PINS_HIGH, "###########."),
+        ("a byte received in mode 0", &[(SCON, 0x10)], PINS_HIGH, "###########."),
+        ("a byte that waits in mode 1", &[(SCON, 0x40), (SBUF, 0x35)], PINS_HIGH, "############"),
+        ("a start bit in mode 2", &[(SCON, 0x90)], RXD_LOW, "############"),
+        // none of it: the serial counters, half and the last line sample
+        ("ticks in mode 2", &[(SCON, 0x80)], PINS_HIGH, "............"),
+        ("ticks in mode 2, RXD low", &[(SCON, 0x80)], RXD_LOW, "#..........."),
+    ];
+    for (what, writes, pins, busy) in cases {
+        let is_busy = |cycle: u64| busy.as_bytes()[cycle as usize] == b'#';
+        for n in 0..=12 {
+            let rounds = rounds_of((0..n).map(is_busy));
+            assert_eq!(jumped(written(52, writes), pins, n).rounds, rounds, "{what}: {n} cycles");
+            let mut device = written(52, writes);
+            for from in 0..n {
+                let rounds = rounds_of((from..n).map(is_busy));
+                let mut rest = device;
+                assert_eq!(rest.jump(pins, n - from).unwrap().rounds, rounds, "{what}: cycles {from} to {n}");
+                device.cycle(pins).unwrap();
+            }
+        }
+    }
+}
+
+/// At most two rounds for a busy cycle, and one more: as many as that where busy cycles stand alone, fewer where they do not.
+#[test]
+fn as_many_rounds_as_can_be() {
+    let alone = written(52, &[(address::TMOD, 0x23), (address::TH1, 0xF8), (address::TL1, 0xF8)]);
+    let jump = jumped(alone, PINS_HIGH, 8 * 1_000 + 7);
+    assert_eq!((jump.totals.timer1, jump.rounds), (1_000, 2 * 1_000 + 1));
+    let waiting = written(51, &[(address::SCON, 0x40), (address::SBUF, 0x35)]);
+    for n in [0, 1, 2, 96, 1_000_000] {
+        assert_eq!(jumped(waiting, PINS_HIGH, n), Jump { rounds: n, ..Jump::default() }, "each cycle of a frame that waits");
+    }
 }
 
 /// Totals are added timer by timer.

@@ -83,6 +83,8 @@ fn but_flags(address: u8) -> u8 {
 const TIMERS: u8 = 0x33;
 const RUN: u8 = 0x50;
 const RUN_2: u8 = 0x04;
+/// The mode of Timer 0 in TMOD: in mode 3 Timer 1 counts without TR1.
+const TIMER_0_MODE: u8 = 0x03;
 
 /// A record of any content within the ranges and masks: reachable or not, it is accepted. In half of them counts are
 /// about to overflow and laps are short, and in half of them timers run.
@@ -133,6 +135,39 @@ pub fn good_record(rng: &mut Rng) -> Device {
         d.interrupts.ie &= 0x9F;
         d.interrupts.ip &= 0x1F;
         d.timer2 = Timer2::default();
+    }
+    d
+}
+
+/// A record that is accepted and would rest with all pins high, but for one thing or none, so that many a cycle is busy for one
+/// reason alone.
+fn nearly_at_rest(rng: &mut Rng) -> Device {
+    let mut d = good_record(rng);
+    d.pcon &= !pcon::PD;
+    d.timers.tcon &= but_flags(address::TCON) & !RUN;
+    d.timers.tmod &= !TIMER_0_MODE;
+    d.timer2.t2con &= but_flags(address::T2CON) & !RUN_2;
+    d.serial.scon &= but_flags(address::SCON);
+    (d.serial.send.position, d.serial.receive.position) = (0, 0);
+    (d.timers.due0, d.timers.due1, d.timer2.due2) = (0, 0, 0);
+    (d.interrupts.seen, d.interrupts.polled, d.levels) = (0, 0, [1; 7]);
+    let of_timer_2 = d.kind == 52;
+    match rng.below(12) {
+        0 => d.serial.send.position = rng.between(1, 10) as u8,
+        1 => d.serial.receive.position = rng.between(1, 10) as u8,
+        2 => d.timers.tcon |= rng.pick(&[flag::TF1, flag::TF0, flag::IE1, flag::IE0]),
+        3 => d.serial.scon |= rng.pick(&[flag::RI, flag::TI]),
+        4 if of_timer_2 => d.timer2.t2con |= rng.pick(&[flag::TF2, flag::EXF2]),
+        5 => d.levels[rng.below(7) as usize] = 0,
+        6 if of_timer_2 => d.timer2.due2 = 1,
+        7 => (d.timers.due0, d.timers.due1) = rng.pick(&[(0, 1), (1, 0)]),
+        8 => d.interrupts.seen = 1 << rng.below(6),
+        9 => d.interrupts.polled = 1 << rng.below(6),
+        10 => {
+            d.interrupts.seen = 1 << rng.below(6);
+            d.interrupts.polled = d.interrupts.seen;
+        }
+        _ => {}
     }
     d
 }
@@ -461,7 +496,7 @@ fn board_call(rng: &mut Rng, name: BoardName, most: u64) -> BoardCall {
     }
 }
 
-/// Runs every call on one board of raw records.
+/// Runs every call on one board of raw records, and jumps of a device that nearly rests.
 pub fn run_record(rng: &mut Rng) -> Result<Tally, String> {
     let pair = Pair::of_board(Board { device: raw_record(rng), interval: raw_interval(rng) });
     let mut tally = Tally::default();
@@ -472,6 +507,11 @@ pub fn run_record(rng: &mut Rng) -> Result<Tally, String> {
         tally += pair.clone().run([Request::Board(board_call(rng, name, 8))])?;
     }
     for request in [Request::Save, Request::Load(some_file(rng))] {
+        tally += pair.clone().run([request])?;
+    }
+    let pair = Pair::of_record(nearly_at_rest(rng));
+    let n = rng.pick(&[0, 1, 2, 3, 4, 9, 40]);
+    for request in [Request::Call(Call::Jump(PINS_HIGH, n)), Request::Board(BoardCall::Jump(PINS_HIGH, GATES_HIGH, n))] {
         tally += pair.clone().run([request])?;
     }
     Ok(tally)

@@ -3,8 +3,9 @@ use crate::files::{compare_load, compare_save, Loads};
 use crate::ran::{row, Ran};
 use crate::reach::{shortened, REACH};
 use crate::record::{board_to_model, interval_of_model, interval_to_model, to_model, Model};
+use crate::rounds::{by_single_cycles, Rounds};
 use crate::speeds::compare_speed;
-use c51::raw::{self, BoardAnswer, BoardJumpAnswer, LineAnswer, LookAnswer, OutputsAnswer, RunAnswer, ValueAnswer};
+use c51::raw::{self, BoardAnswer, BoardJumpAnswer, JumpAnswer, LineAnswer, LookAnswer, OutputsAnswer, RunAnswer, ValueAnswer};
 use c51::{pcon, AnswerRow, Board, Device, Interval, Totals};
 use c51model::interval::{self, board_cycle, board_jump};
 use c51model::model::{self, Refusal, BAD_RECORD};
@@ -49,6 +50,27 @@ pub fn same<T: PartialEq + Debug>(library: T, model: T) -> Result<(), String> {
 pub fn totals_of(tally: &model::Tally) -> Totals {
     let [timer0, timer1, timer2] = tally.totals;
     Totals { timer0, timer1, timer2 }
+}
+
+/// The numbers that a jump of the model gives in a list: its totals, and its rounds.
+fn jump_numbers(tally: &model::Tally) -> [u64; 4] {
+    let [timer0, timer1, timer2] = tally.totals;
+    [timer0, timer1, timer2, tally.rounds()]
+}
+
+/// Nothing where the rounds of a jump that passed are no more than its busy cycles allow, and, where it is short, are those of its
+/// single cycles; the model tells how many are busy.
+fn same_rounds(given: Device, pins: u8, n: u64, rounds: u64, busy: u64) -> Result<(), String> {
+    if rounds > Rounds::most(busy) {
+        return Err(format!("{rounds} rounds with {busy} busy cycles"));
+    }
+    if n <= ONE_BY_ONE {
+        let single = by_single_cycles(given, pins, n);
+        if (rounds, busy) != (single.count(), single.busy) {
+            return Err(format!("{rounds} rounds with {busy} busy cycles\nby single cycles {single:?}"));
+        }
+    }
+    Ok(())
 }
 
 /// The answer of a look ahead or a wake look.
@@ -151,7 +173,7 @@ impl Pair {
     }
 
     /// Runs one of them on both, and compares the answers and the records; gives the answer that a call has in a list, one
-    /// with the totals of a jump of the board, and one with the code of a save or a load.
+    /// with the totals and rounds of a jump of the board, and one with the code of a save or a load.
     fn step(&mut self, request: &Request) -> Result<AnswerRow, String> {
         let mut answer = row(0, Some(&[]));
         match request {
@@ -190,7 +212,7 @@ impl Pair {
     }
 
     /// Runs a call by itself on both, and compares the answers; gives the one that it has in a list. A short jump is made
-    /// once more by jumps of 1, and a trace run by a jump for each entry.
+    /// once more by jumps of 1 and by single cycles, and a trace run by a jump for each entry.
     fn call(&mut self, call: &Call) -> Result<AnswerRow, String> {
         let given = self.library.device;
         let (library, model) = (&mut self.library.device, &mut self.model.device);
@@ -221,12 +243,15 @@ impl Pair {
             }
             &Call::Jump(pins, n) => {
                 let (code, tally) = code_and(model.jump(pins, n));
-                let answer = RunAnswer { code, totals: totals_of(&tally) };
+                let answer = JumpAnswer { code, totals: totals_of(&tally), rounds: tally.rounds() };
                 same(raw::c51_jump(library, pins, n), answer)?;
                 if n <= ONE_BY_ONE {
                     adds_up(given, 0..n, |device, _| raw::c51_jump(device, pins, 1).totals, (answer.totals, *library))?;
                 }
-                row(code, Some(&tally.totals))
+                if code == 0 {
+                    same_rounds(given, pins, n, answer.rounds, tally.busy)?;
+                }
+                row(code, Some(&jump_numbers(&tally)))
             }
             Call::Trace(entries) => {
                 let (code, tally) = code_and(model.trace(entries));
@@ -272,12 +297,12 @@ impl Pair {
 
     /// Makes a call of the 82C53 or of the board on both, and compares the answers, and the call with itself made the other
     /// way. A refused one leaves the board; one on an 82C53 that the model has no value for is refused by 1. Gives the
-    /// totals, which are zeros but of a jump of the board.
-    fn board_call(&mut self, call: &BoardCall) -> Result<[u64; 3], String> {
+    /// totals and the rounds, which are zeros but of a jump of the board.
+    fn board_call(&mut self, call: &BoardCall) -> Result<[u64; 4], String> {
         let given = self.library;
         let (library, model) = (&mut self.library, &mut self.model);
         let timer = model.timer.as_mut().ok_or(BAD_RECORD);
-        let mut overflows = [0; 3];
+        let mut numbers = [0; 4];
         let (code, outputs) = match *call {
             BoardCall::Reset => {
                 library.interval = raw::c53_reset();
@@ -313,13 +338,16 @@ impl Pair {
             BoardCall::Jump(pins, gates, n) => {
                 let jumped = timer.and_then(|timer| board_jump(&mut model.device, timer, pins, gates, n));
                 let (code, (tally, outputs)) = code_and(jumped);
-                let answer = BoardJumpAnswer { code, outputs, totals: totals_of(&tally) };
+                let answer = BoardJumpAnswer { code, outputs, totals: totals_of(&tally), rounds: tally.rounds() };
                 same(raw::c51_board_jump(library, pins, gates, n), answer)?;
                 if n <= ONE_BY_ONE {
                     let jump = |board: &mut Board, _| raw::c51_board_jump(board, pins, gates, 1).totals;
                     adds_up(given, 0..n, jump, (answer.totals, *library))?;
                 }
-                overflows = tally.totals;
+                if code == 0 {
+                    same_rounds(given.device, pins, n, answer.rounds, tally.busy)?;
+                }
+                numbers = jump_numbers(&tally);
                 (code, outputs)
             }
         };
@@ -332,7 +360,7 @@ impl Pair {
         let made = (OutputsAnswer { code, outputs }, self.library);
         match other_way(given, call) {
             Some(other) if other != made => Err(format!("the library gives {made:?}\nthe other way    {other:?}")),
-            _ => Ok(overflows),
+            _ => Ok(numbers),
         }
     }
 }
@@ -367,6 +395,9 @@ pub struct Tally {
     pub loads: Loads,
     /// The jumps and trace runs, of the chip and of the board, in which Timers 0, 1 and 2 overflowed.
     pub overflowed: [u64; 3],
+    /// The jumps of the chip and of the board that took one round, and those that took more.
+    pub of_one_round: u64,
+    pub of_more_rounds: u64,
 }
 
 impl Tally {
@@ -374,7 +405,9 @@ impl Tally {
     fn of(request: &Request, answer: &AnswerRow, before: &Device, after: &Device) -> Tally {
         let in_power_down = before.pcon & pcon::PD != 0 && before.accepts();
         let woken = *request == Request::Call(Call::Take) && before.pcon & !after.pcon & pcon::IDL != 0;
-        let has_totals = matches!(request, Request::Call(Call::Jump(..) | Call::Trace(_)) | Request::Board(_));
+        let is_jump = matches!(request, Request::Call(Call::Jump(..)) | Request::Board(_));
+        let has_totals = is_jump || matches!(request, Request::Call(Call::Trace(_)));
+        let rounds = if is_jump { answer[5] } else { 0 };
         let mut loads = Loads::default();
         if let Request::Load(_) = request {
             loads.add(answer[0] as u8);
@@ -389,6 +422,8 @@ impl Tally {
             saved: (*request == Request::Save && answer[0] == 0).into(),
             loads,
             overflowed: [2, 3, 4].map(|word| (has_totals && answer[word] > 0).into()),
+            of_one_round: (rounds == 1).into(),
+            of_more_rounds: (rounds > 1).into(),
         }
     }
 }
@@ -404,6 +439,8 @@ impl std::ops::AddAssign for Tally {
         self.saved += other.saved;
         self.loads += other.loads;
         self.overflowed.iter_mut().zip(other.overflowed).for_each(|(count, other)| *count += other);
+        self.of_one_round += other.of_one_round;
+        self.of_more_rounds += other.of_more_rounds;
     }
 }
 
@@ -421,5 +458,19 @@ mod tests {
         let whole = |timer2: u64, left: u64| adds_up(7, [1, 2, 3], run, (Totals { timer2, ..Totals::default() }, left));
         assert_eq!(whole(12, 13), Ok(()));
         assert!(whole(11, 13).is_err() && whole(12, 14).is_err());
+    }
+
+    /// RXD falls in the first of ten cycles: one is busy, and the run after it is the other round. Of a long jump the bound alone is
+    /// checked.
+    #[test]
+    fn other_rounds_are_found() {
+        let device = Device::reset(52).expect("a kind");
+        let falls = |n: u64, rounds: u64, busy: u64| same_rounds(device, 0x7E, n, rounds, busy);
+        assert_eq!(falls(10, 2, 1), Ok(()));
+        for (rounds, busy) in [(1, 1), (3, 1), (2, 2), (2, 10), (4, 1), (0, 0), (1, 0)] {
+            assert!(falls(10, rounds, busy).is_err(), "{rounds} rounds with {busy} busy cycles");
+        }
+        assert_eq!(falls(ONE_BY_ONE + 1, 3, 1), Ok(()));
+        assert!(falls(ONE_BY_ONE + 1, 4, 1).is_err());
     }
 }

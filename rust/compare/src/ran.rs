@@ -70,9 +70,10 @@ mod tests {
     use super::*;
     use c51::{address, PINS_HIGH};
 
-    const SCRIPT: &str = "\nT 1 2130706437\nT 2 2113929218 2130706433\nL 127 9\nD\n";
+    const SCRIPT: &str = "\nT 1 2130706437\nT 2 2113929218 2130706433\nL 127 9\nJ 127 6\nD\n";
+    const CALLS: usize = 4;
 
-    /// Two traces and a look ahead that finds none, as they ran. Timer 0 overflows in every second cycle.
+    /// Two traces, a look ahead that finds none and a jump, as they ran. Timer 0 overflows in every second cycle.
     fn ran() -> Ran {
         let mut device = Device::reset(52).expect("a kind");
         for (address, value) in [(address::TMOD, 0x02), (address::TH0, 0xFE), (address::TL0, 0xFE), (address::TCON, 0x30)] {
@@ -84,6 +85,8 @@ mod tests {
             ran.push(Call::Trace(entries), row(0, Some(&[overflows, 0, 0])), device).expect("the same");
         }
         ran.push(Call::Look(PINS_HIGH, 9), row(0, None), device).expect("the same");
+        device.jump(PINS_HIGH, 6).expect("a jump");
+        ran.push(Call::Jump(PINS_HIGH, 6), row(0, Some(&[3, 0, 0, 6])), device).expect("the same");
         ran
     }
 
@@ -94,7 +97,7 @@ mod tests {
 
     #[test]
     fn a_difference_in_any_word_is_found() {
-        for call in 0..3 {
+        for call in 0..CALLS {
             for word in 0..ANSWER_WORDS {
                 let mut ran = ran();
                 ran.answers[call][word] ^= 1;

@@ -1,7 +1,7 @@
 //! The reach of the comparison. A chip rests under a pin byte where no timer counts, no frame is under way and the cycle number alone
-//! moves, and in power-down, where nothing moves; both cross that at once. Before it the model steps every cycle, and the library makes
-//! a round of every cycle with an overflow or of a frame, also of one that waits on a stopped clock. A call of very many such cycles is
-//! run over fewer, on both. An 82C53 rests where no counter counts; the model steps every pulse before it, and the library none.
+//! moves, and in power-down, where nothing moves; no cycle is busy there, and both cross that at once. Before it the model steps every
+//! cycle, and the library makes a round of every busy one, as of a frame that waits on a stopped clock. A call of very many such cycles
+//! is run over fewer, on both. An 82C53 rests where no counter counts; the model steps every pulse before it, and the library none.
 use crate::record::Model;
 use crate::{entry, STAGE};
 use c51::{MAX_CYCLES, MAX_TRACE};

@@ -1,5 +1,5 @@
 //! A fixed number of lists and raw records of fixed seeds, and that the comparison finds what it must.
-use c51::{address, call, flag, pcon, Board, BoardJump, Counter, Device, FlagTimes, Interval, Totals};
+use c51::{address, call, flag, pcon, Board, BoardJump, Counter, Device, FlagTimes, Interval, Jump, Totals};
 use c51::{ANSWER_WORDS, GATES_HIGH, MAX_CYCLES, PINS_HIGH};
 use c51model::baud::{distance, rate_of};
 use c51model::interval::board_jump;
@@ -7,6 +7,7 @@ use c51model::{coverage, script};
 use compare::lists::{raw_interval, raw_record, run_list, run_record, script, styles};
 use compare::pair::{totals_of, Pair, Tally};
 use compare::record::{board_to_model, interval_of_model, interval_to_model, of_model, to_model};
+use compare::rounds::{by_single_cycles, Rounds};
 use compare::speeds::{compare_speed, speed_call, Outcomes};
 use compare::{entry, STAGE};
 use random::Rng;
@@ -41,14 +42,17 @@ fn scripts_of_the_model() {
     assert!(total.saved > LINES / 2, "{total:?}");
     assert!(total.loads.counts().iter().all(|&count| count > LINES / 20), "{total:?}");
     assert!(total.overflowed.iter().all(|&runs| runs > total.calls / 100), "{total:?}");
+    assert!([total.of_one_round, total.of_more_rounds].iter().all(|&jumps| jumps > total.calls / 100), "{total:?}");
     assert_eq!(rare_rules(SIX, 100), [""; 0], "each flag's first and later rises");
     assert_eq!(rare_rules(SEVEN, 100), [""; 0], "TL0 and TH0 overflow in one cycle");
+    assert_eq!(rare_rules(NINE, 10), [""; 0], "cycles that are busy for one reason alone, and cycles that are not");
 }
 
 /// How the names of the rules that a request brought begin; and of Timer 2 as a baud rate generator.
 const THREE: &str = "3: ";
 const SIX: &str = "6: ";
 const SEVEN: &str = "7: ";
+const NINE: &str = "9: ";
 const BAUD: &str = "T2 baud timer: ";
 
 /// The rules of a request that the model has followed in this thread fewer times than so often.
@@ -75,6 +79,7 @@ fn fresh_lists() {
     assert!(total.saved > total.calls / 60 && total.loads.passed > total.calls / 60, "{total:?}");
     assert!(total.loads.counts().iter().all(|&count| count > LISTS / 50), "{total:?}");
     assert!(total.overflowed.iter().all(|&runs| runs > LISTS / 20), "{total:?}");
+    assert!([total.of_one_round, total.of_more_rounds].iter().all(|&jumps| jumps > LISTS / 2), "{total:?}");
     assert_eq!(rare_rules(THREE, 50), [""; 0], "every rule of the 82C53");
     assert_eq!(rare_rules(SIX, 10), [""; 0], "each flag's first and later rises");
     assert_eq!(rare_rules(SEVEN, 50), [""; 0], "TL0 and TH0 overflow in one cycle");
@@ -114,8 +119,10 @@ fn raw_records() {
     assert_eq!(rare_rules(SIX, RECORDS / 100), [""; 0], "each flag's first and later rises");
     assert_eq!(rare_rules(SEVEN, RECORDS / 50), [""; 0], "TL0 and TH0 overflow in one cycle");
     assert_eq!(rare_rules(BAUD, RECORDS / 2_000), [""; 0], "one to six overflows of Timer 2 in a cycle");
+    assert_eq!(rare_rules(NINE, RECORDS / 200), [""; 0], "cycles that are busy for one reason alone, and cycles that are not");
     assert!(total.overflowed.iter().all(|&runs| runs > RECORDS / 25), "{total:?}");
-    assert_eq!((total.calls, total.of_the_board), (20 * RECORDS, 7 * RECORDS));
+    assert!([total.of_one_round, total.of_more_rounds].iter().all(|&jumps| jumps > RECORDS / 20), "{total:?}");
+    assert_eq!((total.calls, total.of_the_board), (22 * RECORDS, 8 * RECORDS));
     assert!(total.saved > RECORDS / 3 && total.loads.counts().iter().all(|&count| count > RECORDS / 20), "{total:?}");
     assert!((total.calls / 40..total.calls / 5).contains(&total.in_power_down), "{total:?}");
     assert!(total.woken > RECORDS / 100, "{total:?}");
@@ -195,7 +202,7 @@ fn run_cycles(device: &mut Device, list: &[Stretch]) -> Totals {
         for _ in 0..stretch.cycles {
             let mut jumped = *device;
             device.cycle(stretch.pins).unwrap();
-            totals += jumped.jump(stretch.pins, 1).unwrap();
+            totals += jumped.jump(stretch.pins, 1).unwrap().totals;
             assert_eq!(jumped, *device);
         }
     }
@@ -203,7 +210,7 @@ fn run_cycles(device: &mut Device, list: &[Stretch]) -> Totals {
 }
 
 fn run_jumps(device: &mut Device, list: &[Stretch]) -> Totals {
-    list.iter().map(|stretch| device.jump(stretch.pins, stretch.cycles).unwrap()).sum()
+    list.iter().map(|stretch| device.jump(stretch.pins, stretch.cycles).unwrap().totals).sum()
 }
 
 fn run_trace(device: &mut Device, list: &[Stretch]) -> Totals {
@@ -256,8 +263,47 @@ fn any_cut_ends_alike() {
     assert!([overflows.timer0, overflows.timer1, overflows.timer2].iter().all(|&total| total > lists), "{overflows:?}");
 }
 
+/// The rounds of a jump are those of its cycles one by one, by the words of request Nine, and of the model: at most two for a busy
+/// cycle, and one more. Cut anywhere it has as many, or for each cut up to one more, where that cuts a run.
+#[test]
+fn rounds_by_single_cycles() {
+    let mut jumps = 0;
+    let mut kinds = [0; 5];
+    for seed in 0..4_000 {
+        let rng = &mut Rng::part(11, seed);
+        let mut device = raw_record(rng);
+        if !device.accepts() {
+            continue;
+        }
+        let mut model = to_model(&device);
+        for stretch in stretches(rng) {
+            let Stretch { pins, cycles } = stretch;
+            let single = by_single_cycles(device, pins, cycles);
+            let parts = cut(rng, &[stretch]);
+            let mut parted = device;
+            let in_parts: u64 = parts.iter().map(|part| parted.jump(pins, part.cycles).unwrap().rounds).sum();
+            let Jump { rounds, .. } = device.jump(pins, cycles).unwrap();
+            let tally = model.jump(pins, cycles).unwrap();
+            let expected = (single.count(), single.busy, single.runs);
+            assert_eq!((rounds, tally.busy, tally.quiet_runs), expected, "record {seed}: {stretch:?}");
+            assert!(rounds <= Rounds::most(single.busy), "record {seed}: {stretch:?}");
+            assert!((rounds..rounds + parts.len() as u64).contains(&in_parts), "record {seed}: {stretch:?} cut to {parts:?}");
+            let kind = match (single.busy, single.runs) {
+                (0, _) => 0,
+                (_, 0) => 1,
+                (busy, runs) if runs == busy + 1 => 2,
+                _ => 3,
+            };
+            kinds[kind] += 1;
+            kinds[4] += u64::from(in_parts > rounds);
+            jumps += 1;
+        }
+    }
+    assert!(jumps > 20_000 && kinds.iter().all(|&count| count > jumps / 500), "of {jumps} jumps {kinds:?}");
+}
+
 /// The same of boards, with gates that change too: board cycles, board jumps and any mix of them. The totals are those of
-/// board jumps, cut anywhere, and of the model.
+/// board jumps, cut anywhere, and of the model, which has the rounds too.
 #[test]
 fn any_cut_of_a_board_ends_alike() {
     let mut lists = 0;
@@ -284,7 +330,8 @@ fn any_cut_of_a_board_ends_alike() {
                 }
             }
             let (tally, outputs) = board_jump(&mut model.device, timer, pins, gates, cycles).unwrap();
-            assert_eq!(given, BoardJump { totals: totals_of(&tally), outputs }, "board {seed}: {list:?}");
+            let expected = BoardJump { totals: totals_of(&tally), rounds: tally.rounds(), outputs };
+            assert_eq!(given, expected, "board {seed}: {list:?}");
             assert_eq!(given.totals, totals, "board {seed}, in parts: {list:?}");
         }
         for (way, ended) in [("cycles", cycled), ("jumps", jumped), ("jumps of parts", parted), ("a mix", mixed)] {
@@ -466,6 +513,23 @@ fn a_difference_in_the_totals_is_found() {
         for (chip, timer0) in [("library", 1), ("model", 0)] {
             let totals = Totals { timer0, ..Totals::default() };
             let said = |line: &str| line.starts_with(&format!("the {chip} answers")) && line.contains(&format!("{totals:?}"));
+            assert!(text.lines().any(said), "{text}");
+        }
+    }
+}
+
+/// A difference in the rounds of a jump and of a jump of the board: the model has RXD saved as 0, so that it finds it changed.
+#[test]
+fn a_difference_in_the_rounds_is_found() {
+    for request in [Request::Call(Call::Jump(PINS_HIGH, 9)), Request::Board(BoardCall::Jump(PINS_HIGH, GATES_HIGH, 9))] {
+        let mut pair = Pair::of_record(Device::reset(52).unwrap());
+        let counted = pair.clone().run([request.clone()]).map(|tally| (tally.of_one_round, tally.of_more_rounds));
+        assert_eq!(counted, Ok((1, 0)), "{request}");
+        pair.model.device.saved[0] = 0;
+        let text = pair.run([request]).unwrap_err();
+        for (chip, rounds) in [("library", 1), ("model", 2)] {
+            let said =
+                |line: &str| line.starts_with(&format!("the {chip} answers")) && line.ends_with(&format!(" rounds: {rounds} }}"));
             assert!(text.lines().any(said), "{text}");
         }
     }

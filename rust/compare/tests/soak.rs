@@ -10,7 +10,7 @@ fn a_small_soak() {
     let ran = soak("--cycles 100000 --records 500 --speeds 2500 --seed 3");
     let out = String::from_utf8(ran.stdout).expect("text");
     assert!(ran.status.success(), "{out}");
-    assert!(out.starts_with("seed 3\n500 raw records in 10000 calls, ") && out.ends_with(" s: no difference\n"), "{out}");
+    assert!(out.starts_with("seed 3\n500 raw records in 11000 calls, ") && out.ends_with(" s: no difference\n"), "{out}");
     let between = |before: &str, after: char| -> Vec<u64> {
         let (_, rest) = out.split_once(before).expect("what stands before");
         let (numbers, _) = rest.split_once(after).expect("what stands after");
@@ -18,6 +18,8 @@ fn a_small_soak() {
     };
     let overflowed = between("runs with overflows of Timers 0, 1, 2: ", ';');
     assert!(overflowed.len() == 3 && overflowed.iter().all(|&count| count > 20), "{out}");
+    let rounds = between("jumps of one round and of more: ", ';');
+    assert!(rounds.len() == 2 && rounds.iter().all(|&count| count > 100), "{out}");
     let loads = between(" saves, loads passed and refused by 15, 16, 17: ", ';');
     assert!(loads.len() == 4 && loads.iter().all(|&count| count > 20), "{out}");
     let counts = between(" 2500 speeds (", ')');

@@ -53,9 +53,8 @@ mod tests {
         for call in [call::RESET, call::WRITE, call::RETURN] {
             assert_eq!(text(call, &[0, 0]), "0 0\n");
         }
-        for call in [call::JUMP, call::TRACE] {
-            assert_eq!(text(call, &[0, 3, 2, 34, u64::MAX]), "0 0 2 34 18446744073709551615\n");
-        }
+        assert_eq!(text(call::JUMP, &[0, 4, 2, 34, u64::MAX, 69]), "0 0 2 34 18446744073709551615 69\n");
+        assert_eq!(text(call::TRACE, &[0, 3, 2, 34, u64::MAX]), "0 0 2 34 18446744073709551615\n");
         for call in [call::READ, call::CYCLE, call::LOOK, call::OFFER, call::TAKE, call::WAKE] {
             assert_eq!(text(call, &[0, 1, 43]), "0 43\n");
         }
@@ -71,9 +70,8 @@ mod tests {
         for call in [call::RESET, call::WRITE, call::RETURN] {
             assert_eq!(text(call, &[8, 0]), "8 0\n");
         }
-        for call in [call::JUMP, call::TRACE] {
-            assert_eq!(text(call, &[8, 3]), "8 0 0 0 0\n");
-        }
+        assert_eq!(text(call::JUMP, &[5, 4]), "5 0 0 0 0 0\n");
+        assert_eq!(text(call::TRACE, &[8, 3]), "8 0 0 0 0\n");
         for call in [call::READ, call::CYCLE, call::LOOK, call::OFFER, call::TAKE, call::WAKE] {
             assert_eq!(text(call, &[255, 1]), "255 0\n");
         }

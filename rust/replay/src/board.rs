@@ -2,7 +2,7 @@
 //! answered.
 use crate::calls::byte;
 use c51::raw::{c51_board_cycle, c51_board_jump, c53_jump, c53_pulse, c53_read, c53_write};
-use c51::{Board, Interval};
+use c51::{Board, Interval, Totals};
 use std::fmt;
 use std::io::{Result, Write};
 
@@ -61,7 +61,8 @@ impl BoardCall {
             }
             BoardCall::Jump(pins, gates, n) => {
                 let a = c51_board_jump(board, pins, gates, n);
-                writeln!(out, "{} 0 {} {} {} {}", a.code, a.totals.timer0, a.totals.timer1, a.totals.timer2, a.outputs)
+                let Totals { timer0, timer1, timer2 } = a.totals;
+                writeln!(out, "{} 0 {timer0} {timer1} {timer2} {} {}", a.code, a.rounds, a.outputs)
             }
         }
     }

@@ -67,7 +67,7 @@ const LINES: [(&str, &str); 95] = [
     ("Z 127", "?"),
     ("C 127", "0 1"),
     ("C 128", "4 0"),
-    ("J 127 1", "0 0 1 0 0"),
+    ("J 127 1", "0 0 1 0 0 1"),
     ("B 12000000 9600 50", "0 none"),
     ("B 12000000 9600 700", "0 1 249 8928"),
     ("B 12000000 9600 10001", "14 0 0 0"),
@@ -86,7 +86,7 @@ const LINES: [(&str, &str); 95] = [
     ("W 135 2", "0 0"),
     ("W 135 0", "10 0"),
     ("Z 127 1", "0 none"),
-    ("J 127 1", "0 0 0 0 0"),
+    ("J 127 1", "0 0 0 0 0 1"),
     ("D", "52 2 16 1 1 0 0 0 0 0 130 0 0 0 0 0 0 0 0 0 0 0 0 0 1 0 0 0 0 0 0 0 0 3 1 1 1 1 1 1 1 1 2 0 0 0 0 0 0 0 0 0 0 0 0 0 0"),
     ("VC 7", "0 0"),
     ("VW 3 52", "0 0"),
@@ -108,18 +108,18 @@ const LINES: [(&str, &str); 95] = [
     ("VJ 7", "?"),
     ("VB 127 1", "0 1 1"),
     ("VB 128 1", "4 0 0"),
-    ("VX 127 1 256", "0 0 0 0 0 0"),
-    ("VX 127 8 1", "4 0 0 0 0 0"),
-    ("VX 127 7 1099511627777", "5 0 0 0 0 0"),
-    ("VX 127 1 257000000000", "0 0 0 0 0 0"),
+    ("VX 127 1 256", "0 0 0 0 0 1 0"),
+    ("VX 127 8 1", "4 0 0 0 0 0 0"),
+    ("VX 127 7 1099511627777", "5 0 0 0 0 0 0"),
+    ("VX 127 1 257000000000", "0 0 0 0 0 1 0"),
     ("V R", "?"),
     ("B 18446744073709551615 0 18446744073709551615", "14 0 0 0"),
-    ("J 127 1", "0 0 0 0 0"),
+    ("J 127 1", "0 0 0 0 0 1"),
     ("D", "52 2 16 1 1 0 0 0 0 0 130 0 0 0 0 0 0 0 0 0 0 0 0 0 1 0 0 0 0 0 0 0 0 3 1 1 1 1 1 1 1 1 2 0 0 0 0 0 0 0 0 0 0 0 0 0 0"),
     ("R 53", "2 0"),
     ("VB 127 7", "1 0 0"),
-    ("VX 127 7 1", "1 0 0 0 0 0"),
-    ("J 127 1", "1 0 0 0 0"),
+    ("VX 127 7 1", "1 0 0 0 0 0 0"),
+    ("J 127 1", "1 0 0 0 0 0"),
     ("B 4608 7 10000", "0 0 254 6"),
     ("VR", "0 0"),
     ("VC 1", "0 0"),
@@ -231,34 +231,56 @@ fn a_record_that_is_put_is_not_judged() {
 fn when_a_flag_last_rose() {
     for (lines, passed, number, cycle) in [
         ("C 127\nC 125\n", "0 1\n0 1\n", 2, 2),
-        ("J 127 9\nJ 125 7\n", "0 0 0 0 0\n0 0 0 0 0\n", 10, 16),
+        ("J 127 9\nJ 125 7\n", "0 0 0 0 0 1\n0 0 0 0 0 3\n", 10, 16),
         ("T 3 2097152003 2130706435 2097152002\n", "0 0 0 0 0\n", 7, 8),
         ("VB 127 0\nVB 125 0\n", "0 1 0\n0 1 0\n", 2, 2),
-        ("VX 125 0 4\nVX 127 0 5\nVX 125 0 3\n", "0 0 0 0 0 0\n0 0 0 0 0 0\n0 0 0 0 0 0\n", 10, 12),
+        ("VX 125 0 4\nVX 127 0 5\nVX 125 0 3\n", "0 0 0 0 0 3 0\n0 0 0 0 0 3 0\n0 0 0 0 0 3 0\n", 10, 12),
     ] {
         let text = format!("R 52\n{lines}J 127 100\nD\n");
         let dump = RESET.replace(" 0 1 1 1 1 1 1 1 0 0 0 0 0 0 ", &format!(" {} 1 1 1 1 1 1 1 0 0 0 0 1 {number} ", cycle + 100));
-        assert_eq!(answers(text.as_bytes()), format!("0 0\n{passed}0 0 0 0 0\n{dump}\n"), "{lines}");
+        assert_eq!(answers(text.as_bytes()), format!("0 0\n{passed}0 0 0 0 0 3\n{dump}\n"), "{lines}");
     }
 }
 
 /// The totals of Timers 0, 1 and 2 follow the 0 of a jump and a trace run, and before the outputs that of a jump of the
-/// board. Timer 0 is in mode 3, TL0 and TH0 at FF; Timer 1 overflows without a flag in every third cycle, and Timer 2 six
-/// times a cycle.
+/// board; after those of a jump its rounds. Timer 0 is in mode 3, TL0 and TH0 at FF; Timer 1 overflows without a flag in
+/// every third cycle, and Timer 2 six times a cycle, so that each is a round.
 #[test]
 fn how_often_each_timer_overflowed() {
     let timers = "R 52\nW 137 35\nW 138 255\nW 140 255\nW 139 253\nW 141 253\nW 136 80\n";
     let timer_2 = "W 202 255\nW 203 255\nW 204 255\nW 205 255\nW 200 52\nVW 3 20\nVW 0 2\n";
     for (lines, passed) in [
-        ("J 127 1\nJ 127 255\nJ 127 0\n", "0 0 2 0 6\n0 0 0 85 1530\n0 0 0 0 0\n"),
+        ("J 127 1\nJ 127 255\nJ 127 0\n", "0 0 2 0 6 1\n0 0 0 85 1530 255\n0 0 0 0 0 0\n"),
         ("T 2 2130706433 2130706687\nT 0\n", "0 0 2 85 1536\n0 0 0 0 0\n"),
-        ("VX 127 7 1\nVX 127 7 255\nVX 127 7 0\n", "0 0 2 0 6 1\n0 0 0 85 1530 0\n0 0 0 0 0 0\n"),
+        ("VX 127 7 1\nVX 127 7 255\nVX 127 7 0\n", "0 0 2 0 6 1 1\n0 0 0 85 1530 255 0\n0 0 0 0 0 0 0\n"),
         ("C 127\nVB 127 7\nVJ 7 1\n", "0 1\n0 1 1\n0 0\n"),
     ] {
         let refused = "J 128 9\nT 1 0\nVX 127 8 9\nW 135 2\nJ 127 9\nT 1 9\nVX 127 0 9\n";
-        let zeros = "4 0 0 0 0\n8 0 0 0 0\n4 0 0 0 0 0\n0 0\n0 0 0 0 0\n0 0 0 0 0\n0 0 0 0 0 1\n";
+        let zeros = "4 0 0 0 0 0\n8 0 0 0 0\n4 0 0 0 0 0 0\n0 0\n0 0 0 0 0 1\n0 0 0 0 0\n0 0 0 0 0 1 1\n";
         let text = format!("{timers}{timer_2}{lines}{refused}");
         assert_eq!(answers(text.as_bytes()), format!("{}{passed}{zeros}", "0 0\n".repeat(14)), "{lines}");
+    }
+}
+
+/// The rounds are the last number of a jump, and stand before the outputs in that of a jump of the board; a trace run has none.
+/// At rest, with a pin that falls, the idle station, a byte that waits on a stopped clock, and power-down.
+#[test]
+fn how_many_rounds() {
+    let station = "R 52\nW 137 32\nW 141 253\nW 139 253\nW 152 80\nW 136 192\n";
+    let waiting = "R 51\nW 152 64\nW 153 53\n";
+    for (lines, passed) in [
+        ("R 52\nJ 127 0\nJ 127 1000\nJ 127 1099511627776\n", "0 0\n0 0 0 0 0 0\n0 0 0 0 0 1\n0 0 0 0 0 1\n"),
+        ("R 52\nJ 126 1000\nVX 127 0 1000\n", "0 0\n0 0 0 0 0 2\n0 0 0 0 0 2 0\n"),
+        (
+            &format!("{station}J 127 3\nJ 127 99\nVX 127 0 99\nT 1 2130706531\n"),
+            concat!("0 0\n0 0\n0 0\n0 0\n0 0\n0 0\n", "0 0 0 1 0 3\n0 0 0 33 0 66\n0 0 0 33 0 66 0\n0 0 0 33 0\n"),
+        ),
+        (
+            &format!("{waiting}J 127 1\nVX 127 0 1000\nW 135 2\nJ 127 1000\n"),
+            concat!("0 0\n0 0\n0 0\n", "0 0 0 0 0 1\n0 0 0 0 0 1000 0\n0 0\n0 0 0 0 0 1\n"),
+        ),
+    ] {
+        assert_eq!(answers(lines.as_bytes()), passed, "{lines}");
     }
 }
 
@@ -278,7 +300,7 @@ fn each_chip_has_its_own_reset() {
 #[test]
 fn the_board_among_lists() {
     let text = "R 52\nW 137 2\nW 136 16\nC 127\nVB 127 0\nr 138\nJ 127 3\nVX 126 0 4\nr 138\nC 127\nr 138\n";
-    assert_eq!(answers(text.as_bytes()), "0 0\n0 0\n0 0\n0 1\n0 1 0\n0 2\n0 0 0 0 0\n0 0 0 0 0 0\n0 9\n0 1\n0 10\n");
+    assert_eq!(answers(text.as_bytes()), "0 0\n0 0\n0 0\n0 1\n0 1 0\n0 2\n0 0 0 0 0 1\n0 0 0 0 0 2 0\n0 9\n0 1\n0 10\n");
 }
 
 /// A call for a speed leaves both chips, also among calls that would run as one list.

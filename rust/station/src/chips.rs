@@ -1,5 +1,5 @@
 //! What a station asks of its chips: the 80C52, and the 82C53 where it has one. No call that a station makes is refused.
-use c51::{Board, Device, Flag, Totals};
+use c51::{Board, BoardJump, Device, Flag, Jump};
 
 /// Machine cycles a second: 11.0592 MHz by 12.
 pub const CYCLES_A_SECOND: u64 = 921_600;
@@ -11,8 +11,8 @@ pub trait Chips {
     fn write(&mut self, address: u8, value: u8);
     /// One cycle of the 80C52 alone; gives the output line.
     fn cycle(&mut self, pins: u8) -> u8;
-    /// n cycles of the 80C52 alone; gives the overflows of its timers.
-    fn jump(&mut self, pins: u8, n: u64) -> Totals;
+    /// n cycles of the 80C52 alone; gives the overflows of its timers, and the rounds.
+    fn jump(&mut self, pins: u8, n: u64) -> Jump;
     fn wake_look(&self, pins: u8, n: u64) -> Option<u64>;
     fn take(&mut self) -> u8;
     fn return_from_interrupt(&mut self);
@@ -23,8 +23,8 @@ pub trait Chips {
 
     /// One cycle and one pulse of the 82C53; gives the output line.
     fn board_cycle(&mut self, pins: u8, gates: u8) -> u8;
-    /// n of them; gives the overflows of the timers.
-    fn board_jump(&mut self, pins: u8, gates: u8, n: u64) -> Totals;
+    /// n of them; gives the overflows of the timers, and the rounds.
+    fn board_jump(&mut self, pins: u8, gates: u8, n: u64) -> Jump;
     /// A byte of the 82C53.
     fn read_interval(&mut self, address: u8) -> u8;
     fn write_interval(&mut self, address: u8, byte: u8);
@@ -52,7 +52,7 @@ impl Chips for Board {
         self.device.cycle(pins).expect(PASSES)
     }
 
-    fn jump(&mut self, pins: u8, n: u64) -> Totals {
+    fn jump(&mut self, pins: u8, n: u64) -> Jump {
         self.device.jump(pins, n).expect(PASSES)
     }
 
@@ -80,8 +80,9 @@ impl Chips for Board {
         self.cycle(pins, gates).expect(PASSES).0
     }
 
-    fn board_jump(&mut self, pins: u8, gates: u8, n: u64) -> Totals {
-        self.jump(pins, gates, n).expect(PASSES).totals
+    fn board_jump(&mut self, pins: u8, gates: u8, n: u64) -> Jump {
+        let BoardJump { totals, rounds, .. } = self.jump(pins, gates, n).expect(PASSES);
+        Jump { totals, rounds }
     }
 
     fn read_interval(&mut self, address: u8) -> u8 {

@@ -1,6 +1,7 @@
-//! Eleven stations side by side: prints each tag with its station and cycle, and how often Timer 1 of each station
-//! lapped, and checks that every digit is the one sent. With `--save` it ends in the middle of a frame and leaves a file from
-//! which `--load` goes on. With `--speed`, which is used alone, it prints SMOD and TH1 for a crystal and a rate instead.
+//! Eleven stations side by side: prints each tag with its station and cycle, how often Timer 1 of each station lapped and how
+//! many rounds its jumps took, and checks that every digit is the one sent. With `--save` it ends in the middle of a frame and
+//! leaves a file from which `--load` goes on. With `--speed`, which is used alone, it prints SMOD and TH1 for a crystal and a
+//! rate instead.
 //! Exit status: 0 all as sent, or a speed found; 1 a wrong tag, or no speed within the tolerance; 2 a bad command line, a file
 //! that cannot be written, or one that is no saved run.
 use c51::Board;

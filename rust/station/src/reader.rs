@@ -3,7 +3,7 @@ use crate::chips::{Chips, PASSES};
 use crate::frame::Stretch;
 use crate::timing::Timing;
 use crate::vcd::{Levels, Waveform};
-use c51::{address, flag, pcon, pin, Flag, Totals, PINS_HIGH};
+use c51::{address, flag, pcon, pin, Flag, Jump, Totals, PINS_HIGH};
 
 /// The vector of the serial port.
 const SERIAL_VECTOR: u8 = 0x23;
@@ -36,6 +36,8 @@ pub struct Reader<C> {
     pub timing: Option<Timing>,
     /// The overflows of its timers since reset.
     pub totals: Totals,
+    /// The rounds of its jumps since reset.
+    pub rounds: u64,
     /// The bytes received since they were last taken.
     pub received: Vec<Received>,
     /// Takes every cycle between `watch(true)` and `watch(false)`.
@@ -50,14 +52,14 @@ impl<C: Chips> Reader<C> {
         for (address, value) in SETUP {
             chips.write(address, value);
         }
-        let mut reader = Reader::of(chips, None, Totals::default(), Vec::new());
+        let mut reader = Reader::of(chips, None, Jump::default(), Vec::new());
         reader.sleep();
         reader
     }
 
-    /// A station that goes on from here.
-    pub fn of(chips: C, timing: Option<Timing>, totals: Totals, received: Vec<Received>) -> Reader<C> {
-        Reader { chips, timing, totals, received, waveform: None, watching: false }
+    /// A station that goes on from here, with what its jumps since reset have given.
+    pub fn of(chips: C, timing: Option<Timing>, Jump { totals, rounds }: Jump, received: Vec<Received>) -> Reader<C> {
+        Reader { chips, timing, totals, rounds, received, waveform: None, watching: false }
     }
 
     /// One with an 82C53.
@@ -100,28 +102,29 @@ impl<C: Chips> Reader<C> {
         }
     }
 
-    /// n cycles, and n pulses of the 82C53 where there is one.
+    /// A jump of n cycles, and of n pulses of the 82C53 where there is one. For a waveform the chips go by single cycles, which give the
+    /// line, and the jump over them is made of a copy: overflows and rounds are the same.
     fn advance(&mut self, pins: u8, n: u64) {
         let (chips, gates) = (&mut self.chips, self.timing.as_ref().map(Timing::gates));
-        self.totals += match &mut self.waveform {
+        let Jump { totals, rounds } = match &mut self.waveform {
             Some(waveform) if self.watching => {
-                let mut totals = Totals::default();
+                let jump = chips.record().jump(pins, n).expect(PASSES);
                 for _ in 0..n {
-                    // a single cycle gives the line; its overflows are those of a jump of 1, on a copy
-                    totals += chips.record().jump(pins, 1).expect(PASSES);
                     let line = match gates {
                         Some(gates) => chips.board_cycle(pins, gates),
                         None => chips.cycle(pins),
                     };
                     waveform.cycle(&chips.record(), Levels { pins, line, gates: gates.unwrap_or(0), outputs: chips.outputs() });
                 }
-                totals
+                jump
             }
             _ => match gates {
                 Some(gates) => chips.board_jump(pins, gates, n),
                 None => chips.jump(pins, n),
             },
         };
+        self.totals += totals;
+        self.rounds += rounds;
     }
 
     fn is_idle(&self) -> bool {
@@ -215,15 +218,22 @@ mod tests {
         }
     }
 
+    /// Those with an 82C53 and without, each with a waveform being drawn and not.
+    fn readers() -> impl Iterator<Item = Reader<Board>> {
+        [false, true].into_iter().flat_map(|watching| {
+            [Reader::new(), Reader::with_interval()].map(|mut reader| {
+                reader.waveform = Some(Waveform::new(1, reader.timing.is_some()));
+                reader.watch(watching);
+                reader
+            })
+        })
+    }
+
     /// The overflows of Timer 1 are those that single cycles show, TL1 being reloaded from FF, and one in three cycles: with
     /// an 82C53 and without, by jumps and, for a waveform, by single cycles, bytes being served on the way.
     #[test]
     fn the_laps_of_timer_1() {
-        for (watching, mut reader) in
-            [false, true].into_iter().flat_map(|w| [(w, Reader::<Board>::new()), (w, Reader::with_interval())])
-        {
-            reader.waveform = Some(Waveform::new(1, reader.timing.is_some()));
-            reader.watch(watching);
+        for mut reader in readers() {
             let mut laps = 0;
             for (pause, &byte) in b"271828\r".iter().enumerate() {
                 for stretch in [vec![Stretch { rxd: 1, cycles: BIT + pause as u64 }], frame(byte, None)].concat() {
@@ -237,6 +247,34 @@ mod tests {
                 }
             }
             assert_eq!((reader.take_received().len(), laps), (7, reader.chips.device.cycle / LAP));
+        }
+    }
+
+    /// Two rounds for each lap in which the line rests, and one for each cycle of a frame up to its last sample: with an 82C53 and
+    /// without, with a waveform and not.
+    #[test]
+    fn the_rounds_of_its_jumps() {
+        for mut reader in readers() {
+            let mut held = |stretch: Stretch| {
+                let before = reader.rounds;
+                reader.hold(stretch);
+                reader.rounds - before
+            };
+            assert_eq!(held(Stretch { rxd: 1, cycles: LAP }), 2, "the first lap is quiet up to the overflow");
+            assert_eq!(held(Stretch { rxd: 1, cycles: LAP }), 3, "TF1 rose, and is polled");
+            for laps in [1, 3, 1_000, 100_000] {
+                assert_eq!(held(Stretch { rxd: 1, cycles: laps * LAP }), 2 * laps);
+            }
+            assert_eq!(held(Stretch { rxd: 1, cycles: 0 }), 0);
+            let bits: Vec<u64> = frame(0x55, None).into_iter().map(held).collect();
+            let (stop, bits) = bits.split_last().unwrap();
+            assert_eq!(
+                bits,
+                [[BIT - 1].as_slice(), &[BIT; 8]].concat(),
+                "a run of two cycles before the tick that finds the start"
+            );
+            assert_eq!(*stop, 61 + 2 * 12, "each cycle up to the poll of RI, and then twelve laps");
+            assert_eq!(reader.take_received().len(), 1);
         }
     }
 

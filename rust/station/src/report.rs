@@ -1,4 +1,4 @@
-//! The tags that were read, as a table and as CSV, and how often Timer 1 lapped.
+//! The tags that were read, as a table and as CSV, how often Timer 1 lapped, and how many rounds that took.
 use crate::chips::CYCLES_A_SECOND;
 use crate::run::{Laps, Row, DIGITS};
 use crate::timing::{Time, LIMIT};
@@ -52,7 +52,7 @@ fn fields(row: &Row) -> [String; 9] {
     ]
 }
 
-/// The tags, of which it leaves out the laps up to each, then the laps of each station in the run, and a summary.
+/// The tags, of which it leaves out the laps up to each, then the laps and rounds of each station in the run, and a summary.
 pub fn table(rows: &[Row], laps: &[Laps]) -> String {
     let (cycle, seconds, tag) = ("cycle", "seconds", "tag");
     let mut text = format!("station {cycle:>16} {seconds:>14}  {tag:<15} noisy samples  ms by 82C53  last digit cycle  verdict\n");
@@ -75,11 +75,13 @@ pub fn table(rows: &[Row], laps: &[Laps]) -> String {
     text
 }
 
-/// A line for each station, under the first columns of the table: how often its Timer 1 overflowed, and in which time.
+/// A line for each station, under the first columns of the table: how often its Timer 1 overflowed, in which time, and how many rounds
+/// its jumps took, in all and for a second of that time.
 fn lapped(laps: &[Laps]) -> String {
-    let mut text = format!("station {:>16} {:>14}\n", "Timer 1 laps", "in seconds");
-    for Laps { station, timer1, cycles } in laps {
-        text += &format!("{station:>7} {timer1:>16} {:>14.6}\n", seconds(*cycles));
+    let mut text = format!("station {:>16} {:>14} {:>16} {:>16}\n", "Timer 1 laps", "in seconds", "jump rounds", "a second");
+    for Laps { station, timer1, cycles, rounds } in laps {
+        let seconds = seconds(*cycles);
+        text += &format!("{station:>7} {timer1:>16} {seconds:>14.6} {rounds:>16} {:>16.0}\n", *rounds as f64 / seconds);
     }
     text
 }

@@ -53,7 +53,7 @@ impl Row {
 }
 
 /// The digit of a tag in whose frame a run can be saved, from 0, and the cycles of the frame up to there: they end in the middle of a
-/// data bit, between two of its samples.
+/// data bit, between two of its samples. Every run cuts its line there, saved or not, so that the jumps and their rounds are the same.
 const MIDDLE_DIGIT: usize = DIGITS / 2;
 const MIDDLE: u64 = BITS / 2 * BIT + BIT / 2;
 
@@ -175,13 +175,14 @@ fn shown(bytes: &[u8]) -> String {
     bytes.iter().map(digit).collect::<String>() + end
 }
 
-/// How often Timer 1 of a station overflowed in a run, and in how many cycles.
+/// How often Timer 1 of a station overflowed in a run, in how many cycles, and how many rounds its jumps over them took.
 #[derive(Clone, Copy, PartialEq, Eq, Debug)]
 pub struct Laps {
     /// From 1.
     pub station: usize,
     pub timer1: u64,
     pub cycles: u64,
+    pub rounds: u64,
 }
 
 /// What a run gives.
@@ -250,6 +251,7 @@ impl<C: Chips> Run<C> {
             station: *number,
             timer1: reader.totals.timer1,
             cycles: reader.chips.record().cycle,
+            rounds: reader.rounds,
         };
         Ran {
             rows: self.rows,

@@ -5,14 +5,14 @@ use crate::options::{tag, whole, LONGEST_GAP, MOST_STATIONS};
 use crate::reader::{Reader, Received};
 use crate::run::{Plan, Row, Run, Station, UnderWay, WITH_INTERVAL};
 use crate::timing::{Time, Timing};
-use c51::{flag, Board, Counter, Device, Flag, Interval, Totals};
+use c51::{flag, Board, Counter, Device, Flag, Interval, Jump, Totals};
 use random::Rng;
 use std::fmt::Write;
 use std::io::{self, Read};
 
 /// The first line.
 const NAME: &str = "c51-station-run";
-const VERSION: &str = "1";
+const VERSION: &str = "2";
 /// The name of the last line.
 const SUM: &str = "sum";
 /// What stands in the place of a number that there is none of.
@@ -129,7 +129,7 @@ fn save_station(text: &mut String, station: &Station<Board>) {
     let Station { number, reader, rng } = station;
     let Totals { timer0, timer1, timer2 } = reader.totals;
     let chip = reader.chips.device.save().expect("a station's chip is accepted");
-    *text += &format!("station {number} {} {timer0} {timer1} {timer2}\nchip {}\n", rng.seed(), hex(&chip));
+    *text += &format!("station {number} {} {timer0} {timer1} {timer2} {}\nchip {}\n", rng.seed(), reader.rounds, hex(&chip));
     if let Some(Timing { fish, begun, took }) = reader.timing {
         let Interval { counter0, counter1, counter2 } = &reader.chips.interval;
         let numbers: Vec<String> = [counter0, counter1, counter2].iter().flat_map(|k| numbers(k)).map(|n| n.to_string()).collect();
@@ -236,7 +236,7 @@ fn load_row(lines: &mut Lines, number: usize) -> Result<Row, String> {
 }
 
 fn load_station(lines: &mut Lines, number: usize) -> Result<Station<Board>, String> {
-    let [station, seed, timer0, timer1, timer2] = lines.numbers("station")?;
+    let [station, seed, timer0, timer1, timer2, rounds] = lines.numbers("station")?;
     if station != number as u64 {
         return Err(format!("station {number} is due, not {station}"));
     }
@@ -247,7 +247,8 @@ fn load_station(lines: &mut Lines, number: usize) -> Result<Station<Board>, Stri
     };
     let [count] = lines.numbers("received")?;
     let received = (0..count).map(|_| load_received(lines)).collect::<Result<Vec<Received>, String>>()?;
-    let reader = Reader::of(Board { device, interval }, timing, Totals { timer0, timer1, timer2 }, received);
+    let since_reset = Jump { totals: Totals { timer0, timer1, timer2 }, rounds };
+    let reader = Reader::of(Board { device, interval }, timing, since_reset, received);
     Ok(Station { number, reader, rng: Rng::new(seed) })
 }
 
@@ -367,7 +368,8 @@ mod tests {
             for (a, b) in loaded.stations.iter().zip(&run.stations) {
                 assert_eq!((a.number, a.rng.seed()), (b.number, b.rng.seed()));
                 let [a, b] = [&a.reader, &b.reader];
-                assert_eq!((a.chips, a.timing, a.totals, &a.received), (b.chips, b.timing, b.totals, &b.received));
+                assert_eq!((a.chips, a.timing, &a.received), (b.chips, b.timing, &b.received));
+                assert_eq!((a.totals, a.rounds), (b.totals, b.rounds));
             }
             assert_eq!(loaded.save(), text);
             assert_eq!(forged(&text, str::to_string), text);
@@ -428,7 +430,7 @@ mod tests {
         for foreign in [&b""[..], b"\n", b"station,cycle,seconds\n", &chip, &[0xFF; 1000]] {
             assert_eq!(Run::load(foreign).err().as_deref(), Some("it is no saved run of stations"));
         }
-        assert!(fault(&text.replacen("run 1\n", "run 2\n", 1)).starts_with("it is a saved run of another version than 1"));
+        assert!(fault(&text.replacen("run 2\n", "run 1\n", 1)).starts_with("it is a saved run of another version than 2"));
     }
 
     /// With a sum that is right: the line and what is due there. The chip of a line is a checkpoint, and is refused as one.

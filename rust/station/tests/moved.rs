@@ -1,4 +1,4 @@
-//! Runs that are saved in the middle of a frame and gone on from: the same tags, cycle numbers, laps and CSV as a run without the move;
+//! Runs that are saved in the middle of a frame and gone on from: the same tags, cycle numbers, laps, rounds and CSV as without the move;
 //! what is in the file; files that are refused; and that a save which fails leaves the old file.
 use c51::{Board, Device, CHECKPOINT_52};
 use station::run::Run;
@@ -164,7 +164,7 @@ fn a_file_that_is_refused() {
     for (bytes, why) in [
         (&b""[..], "it is no saved run of stations"),
         (b"tags\n", "it is no saved run of stations"),
-        (b"c51-station-run 2\n", "it is a saved run of another version than 1, or damaged"),
+        (b"c51-station-run 1\n", "it is a saved run of another version than 2, or damaged"),
         (&saved[..saved.len() - 1], "it is damaged or cut short"),
         (&saved[..saved.len() / 2], "it is damaged or cut short"),
         (&damaged, "it is damaged or cut short"),

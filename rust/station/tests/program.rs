@@ -59,9 +59,10 @@ fn the_csv_is_the_table() {
 
 /// Timer 1 laps every third cycle from reset on: up to a tag in a third of its cycles, in the run in a third of the
 /// station's. It does so with an 82C53 and without, and a waveform, for which a station goes by single cycles, alters
-/// nothing. Only stations that were sent a tag are listed.
+/// nothing. The jumps take two rounds for each lap in which the line rests, and three in a tag. Only stations that were sent a
+/// tag are listed.
 #[test]
-fn the_laps_of_timer_1() {
+fn the_laps_of_timer_1_and_the_rounds() {
     for (line, stations) in [("--tags 7 --gap 0.05 --stations 3", 3), ("--tags 3 --gap 2 --stations 1000", 3)] {
         let [csv, vcd] = ["laps.csv", "laps.vcd"].map(scratch);
         let table = text(&station(&format!("{line} --csv {}", csv.display())).stdout);
@@ -70,7 +71,8 @@ fn the_laps_of_timer_1() {
         let number = |word: &str| word.parse::<u64>().expect("a number");
         let laps: Vec<Vec<&str>> =
             table.lines().skip(rows.len() + 2).take(stations).map(|line| line.split_whitespace().collect()).collect();
-        assert_eq!(table.lines().nth(rows.len() + 1), Some("station     Timer 1 laps     in seconds"));
+        let header = "station     Timer 1 laps     in seconds      jump rounds         a second";
+        assert_eq!(table.lines().nth(rows.len() + 1), Some(header));
         assert_eq!(laps.iter().map(|line| number(line[0])).collect::<Vec<u64>>(), (1..=stations as u64).collect::<Vec<u64>>());
         assert_eq!(table.lines().count(), 1 + rows.len() + 1 + stations + 2);
         for row in &rows {
@@ -81,6 +83,12 @@ fn the_laps_of_timer_1() {
             assert_eq!(number(line[1]), cycles / 3, "{line:?}");
             let last = rows.iter().filter(|row| row[0] == line[0]).map(|row| number(row[1])).max().expect("a tag");
             assert!((last..last + 2 * 96).contains(&cycles), "{line:?} to the end of the stop bit and a bit more");
+            let tags = rows.iter().filter(|row| row[0] == line[0]).count() as u64;
+            let in_tags = number(line[3]) - 2 * number(line[1]);
+            // a third of 16 frames, each of 960 cycles less the rest of its stop bit, and a round here and there where a pin changes
+            assert!((16 * 880 / 3..16 * 980 / 3).contains(&(in_tags / tags)), "{line:?}: {in_tags} rounds more in {tags} tags");
+            let a_second = number(line[3]) as f64 / (cycles as f64 / 921_600.0);
+            assert_eq!(line[4], format!("{a_second:.0}"), "{line:?}");
         }
         for drawn in 1..=stations {
             let ran = station(&format!("{line} --vcd {} --vcd-station {drawn}", vcd.display()));

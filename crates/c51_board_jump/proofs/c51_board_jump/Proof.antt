@@ -17,7 +17,7 @@ use Rattle.c51_board_jump.proofs.BoardJumped as N
 use Rattle.c51_board_jump.proofs.BoardJumped.Laws as N′
 use Rattle.lent.proofs.Lent.{value, in-field, Pieces, none, _and_, _with_, some-pieces, number, Passed, values, in-order, asks-nothing, exported}
 use Rattle.lent.proofs.Structs.{totals-typed}
-use Rattle.board.proofs.Structs.{board, jump-carries, jump-code, jump-outputs, jump-totals}
+use Rattle.board.proofs.Structs.{board, jump-carries, jump-code, jump-outputs, jump-totals, jump-rounds}
 use Rattle.c51_board_jump.proofs.c51_board_jump.Key.{name as #c51-board-jump·c51-board-jump}
 use Rattle.c51_board_jump.proofs.c51_board_jump as lent
 use Rattle.c51_board_jump.proofs.c51_board_jump.Statement as stated
@@ -26,18 +26,18 @@ use Rattle.c51_board_jump.proofs.c51_board_jump.Code as code
 abbrev params : List (Passed 1)
 params = number w8 ∷ number w8 ∷ number w64 ∷ []
 
-abbrev numbers : Pieces (jump-code and jump-outputs and jump-totals with none) N.the-type
+abbrev numbers : Pieces (jump-code and jump-outputs and jump-totals with jump-rounds with none) N.the-type
 numbers = record {
-  make = λ r. record { code = r .code; outputs = r .outputs; totals = r .totals };
+  make = λ r. record { code = r .code; outputs = r .outputs; totals = r .totals; rounds = r .rounds };
   plains = N′.the-plain;
-  typed = λ r fits. (tt, (record { fits = fits .0 }, (record { fits = fits .1 .0 }, (totals-typed (r .totals) (fits .1 .1 .0), tt))));
-  is = λ r fits. LL.owes N.the-type N′.the-laws (record { code = r .code; outputs = r .outputs; totals = r .totals }) ((refl, fits .0), ((refl, fits .1 .0), (fits .1 .1 .0, tt)));
+  typed = λ r fits. (tt, (record { fits = fits .0 }, (record { fits = fits .1 .0 }, (totals-typed (r .totals) (fits .1 .1 .0), (record { fits = fits .1 .1 .1 .0 }, tt)))));
+  is = λ r fits. LL.owes N.the-type N′.the-laws (record { code = r .code; outputs = r .outputs; totals = r .totals; rounds = r .rounds }) ((refl, fits .0), ((refl, fits .1 .0), (fits .1 .1 .0, ((refl, fits .1 .1 .1 .0), tt))));
 }
 
 pub c51-board-jump-spec : {M : Type 1} → stated.statement M
 unfolding code.routine
 c51-board-jump-spec 𝓤 H 𝓜 𝓖 𝓡 =
-    exported 𝓤 H 𝓜 𝓖 𝓡 code.env #c51-board-jump·c51-board-jump (in-field 3 jump-carries) (in-order params R.mir) (some-pieces (jump-code and jump-outputs and jump-totals with none) N.the-type numbers) #board·jump (code.unfolded 𝓤 H 𝓜 𝓡) (lent.clauses 𝓤 H (𝓖 .A) (𝓜 .mem) (𝓡 .run))
+    exported 𝓤 H 𝓜 𝓖 𝓡 code.env #c51-board-jump·c51-board-jump (in-field 4 jump-carries) (in-order params R.mir) (some-pieces (jump-code and jump-outputs and jump-totals with jump-rounds with none) N.the-type numbers) #board·jump (code.unfolded 𝓤 H 𝓜 𝓡) (lent.clauses 𝓤 H (𝓖 .A) (𝓜 .mem) (𝓡 .run))
     (tripleOf 𝓤 H (𝓖 .A) jump.signature (jump.spec 𝓤 H (𝓖 .A) (𝓜 .mem) (𝓡 .run))) jump-def.routine code.calls-board·jump (jump-thm.met 𝓤 H 𝓜 𝓖 𝓡)
     record {
       Told = λ κs h a r ws. r ≡ jumpAnswer h (a .0) (a .1 .0) (a .1 .1 .0);
@@ -45,5 +45,5 @@ c51-board-jump-spec 𝓤 H 𝓜 𝓖 𝓡 =
       args = λ κs qs h a. refl;
       asks = λ κs qs h a. asks-nothing 𝓤 _;
       gives = λ κs qs h a v. id⊢ 𝓤 _;
-      shows = λ κs x a g r ws told. factI 𝓤 _ (emp 𝓤) (ap (λ (y : BoardJumpAnswer). y .code) told, (ap (λ (y : BoardJumpAnswer). y .outputs) told, (ap (λ (y : BoardJumpAnswer). y .totals) told, ap (λ (y : BoardJumpAnswer). y .board) told)));
+      shows = λ κs x a g r ws told. factI 𝓤 _ (emp 𝓤) (ap (λ (y : BoardJumpAnswer). y .code) told, (ap (λ (y : BoardJumpAnswer). y .outputs) told, (ap (λ (y : BoardJumpAnswer). y .totals) told, (ap (λ (y : BoardJumpAnswer). y .rounds) told, ap (λ (y : BoardJumpAnswer). y .board) told))));
     }

@@ -24,11 +24,11 @@ returns-4 c = simp (c .shown-cycle .ensures, c .before .cycle .ensures, c .befor
 
 returns-5 : tie.Need-returns-5
 unfolding play callOf
-returns-5 c = simp (c .shown-run .ensures, c .before .jump .ensures, c .before .before .byte-in6 .ensures, c .before .before .before .match .keys5)
+returns-5 c = simp (c .shown-jump .ensures, c .before .jump .ensures, c .before .before .byte-in6 .ensures, c .before .before .before .match .keys5)
 
 returns-6 : tie.Need-returns-6
 unfolding play callOf
-returns-6 c = simp (c .shown-run2 .ensures, c .before .trace .ensures, c .before .before .part .ensures, c .before .before .before .match .keys6)
+returns-6 c = simp (c .shown-run .ensures, c .before .trace .ensures, c .before .before .part .ensures, c .before .before .before .match .keys6)
 
 returns-7 : tie.Need-returns-7
 unfolding play callOf

@@ -1,76 +1,62 @@
--- Round by round: what is left and what was added up so far are `Reached`.
-use mathlib.Core.Path.{sym, _∙_}
+-- The rounds up to where Timer 1's reload is all that happens, or to the end, and then the rest: by `Reached` and the laws of the reload.
+use mathlib.Core.Path.{_≡_, refl, sym, _∙_}
+use mathlib.Core.Logic.{_⊎_, inl, inr}
+use Prim.Native.Nat.{ℕ}
 use native.Mathlib.Omega.{arith}
 use borrow.Author.Needs.{needs}
-use Rattle.jump.proofs.Idles.{idle-on, idle-laps}
-use Rattle.jump.proofs.Rounds.{round-used}
-use Rattle.jump.proofs.Reached.{Reached, reached-first, reached-low, reached-on, rest-sums, rest-fits, reached-end, reached-sum}
+use Rattle.record.proofs.Accepted.{ranges-of}
+use Rattle.jump.proofs.Idles.{idle-on, idle-laps, idle-rounds}
+use Rattle.jump.proofs.Reached.{rest-sums, rest-fits, rest-counts, rest-few, reached-end, reached-sum, reached-count}
 use Rattle.jump.proofs.advance.Statement.{statement}
 use Rattle.jump.proofs.advance.Tie as tie
 
-abbrev Inv-loop : tie.InvT-loop
-Inv-loop pins n run₀ left₀ run left = Reached pins n run₀ run left
-
-abbrev μ-loop : tie.MeasureT-loop
-μ-loop pins n run₀ left₀ run left = left
-
-loop-holds : tie.Need-loop-holds Inv-loop μ-loop
-loop-holds c = reached-first _ _ _ (c .pre .0) (c .pre .2)
-
-idles-requires : tie.Need-idles-requires Inv-loop μ-loop
-idles-requires c κs = c .ahead .ensures .0
-
--- where Timer 1's reload is all that happens, the rest at once
-added-requires : tie.Need-added-requires Inv-loop μ-loop
-added-requires c κs =
-    let t = c .before .before in
-    let q = t .before in
-    let l = q .before .before .before in
-    let i = l .loop .inv in
-    let laps = idle-laps _ (l .loop .run .device) (i .ready) (q .idles .ensures) (t .if1 .taken) (l .loop .left) in
-    rest-fits i (laps ∙ sym (c .idle-totals .ensures)) (l .before .pre .1)
-
-returns : tie.Need-returns Inv-loop μ-loop
+-- no cycle is left
+returns : tie.Need-returns
 returns c =
-    let s = c .before in
-    let o = s .before in
-    let t = o .before in
-    let q = t .before in
-    let l = q .before .before .before in
-    let i = l .loop .inv in
-    let d = l .loop .run .device in
-    let laps = idle-laps _ d (i .ready) (q .idles .ensures) (t .if1 .taken) (l .loop .left) in (
-      c .added .ensures ∙ rest-sums i (laps ∙ sym (s .idle-totals .ensures)),
-      idle-on _ d (i .ready) (q .idles .ensures) (t .if1 .taken) (l .loop .left) (o .idle .ensures) (i .ends),
-    )
+    let g = c .before .before .before .rounds-to-idle .ensures .0 in
+    let none = c .if1 .taken in
+    (reached-count g (omega arith), reached-sum g (omega arith), reached-end g (omega arith))
 
--- a round
-one-round-requires : tie.Need-one-round-requires Inv-loop μ-loop
-one-round-requires c κs =
-    let h = c .before .before in
-    let l = h .before .before in
-    let i = l .loop .inv in
-    (i .ready, omega arith, omega (arith, i .within, l .before .pre .1), h .ahead .ensures .1, reached-low i (l .before .pre .1))
+-- the rest at once
+idles-on : {P : Type 0} {left : ℕ} → (left ≡ 0) ⊎ P → (left ≡ 0 → ⊥) → P
+idles-on (inl z) some = absurd (some z)
+idles-on (inr p) some = p
 
-sub-left : tie.Need-sub-left Inv-loop μ-loop
-sub-left c = round-used _ _ _ (c .before .before .one-round .ensures) (omega arith) .1
+idle-requires : tie.Need-idle-requires
+idle-requires c κs = ranges-of _ (c .before .before .before .rounds-to-idle .ensures .0 .ready .good) .serial .half
 
-loop-less : tie.Need-loop-less Inv-loop μ-loop
-loop-less c = omega (arith, round-used _ _ _ (c .before .before .one-round .ensures) (omega arith))
+added-requires : tie.Need-added-requires
+added-requires c κs =
+    let i = c .before .before .before in
+    let r = i .before .before .before .rounds-to-idle in
+    let g = r .ensures .0 in
+    let laps = idle-laps _ (r .result .run .device) (g .ready) refl (idles-on (r .ensures .1) (i .if1 .left)) (r .result .left) in
+    rest-fits g (laps ∙ sym (c .idle-totals .ensures)) (i .before .before .before .before .pre .1)
 
-loop-again : tie.Need-loop-again Inv-loop μ-loop
-loop-again c =
-    let r = c .before .before in
-    let l = r .before .before .before .before .before in
-    reached-on (l .loop .inv) (omega arith) (r .one-round .ensures)
+add-t12 : tie.Need-add-t12
+add-t12 c =
+    let q = c .before .before .before .before .before .before in
+    let r = q .before .before .before .rounds-to-idle in
+    let g = r .ensures .0 in
+    let counts = idle-rounds _ (r .result .run .device) (g .ready) refl (idles-on (r .ensures .1) (q .if1 .left)) (r .result .left) in
+    let few = rest-few g (counts ∙ sym (c .before .before .before .before .before .idle .ensures .0)) in
+    omega (arith, few, q .before .before .before .before .pre .1)
 
-returns-2 : tie.Need-returns-2 Inv-loop μ-loop
+returns-2 : tie.Need-returns-2
 returns-2 c =
-    let i = c .before .loop .inv in
-    (reached-sum i (c .loop-test .left), reached-end i (c .loop-test .left))
+    let i = c .before .before .before .before .before .before in
+    let r = i .before .before .before .rounds-to-idle in
+    let g = r .ensures .0 in
+    let d = r .result .run .device in
+    let p = idles-on (r .ensures .1) (i .if1 .left) in
+    let n = r .result .left in
+    let idled = c .before .before .before .before .before .idle .ensures in (
+      rest-counts g (idle-rounds _ d (g .ready) refl p n ∙ sym (idled .0)),
+      c .before .before .added .ensures ∙ rest-sums g (idle-laps _ d (g .ready) refl p n ∙ sym (c .before .before .before .idle-totals .ensures)),
+      idle-on _ d (g .ready) refl p n (idled .1) (g .ends),
+    )
 
 pub advance-spec : {M : Type 1} → statement M
 advance-spec =
     tie.close
-    (tie.spec Inv-loop μ-loop loop-holds (search needs) idles-requires (search needs) (search needs) added-requires returns
-    one-round-requires sub-left loop-less loop-again returns-2)
+    (tie.spec (λ c κs. search needs) returns idle-requires (search needs) added-requires add-t12 returns-2)

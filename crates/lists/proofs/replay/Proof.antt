@@ -37,6 +37,11 @@ slice-write-answers-5 c =
     let t = c .before .before .before .before .before in
     simp length-set (fits-at _ _ _ _ (t .before .loop .inv) (t .loop-test .taken) 4 (lit< tt))
 
+slice-write-answers-6 : tie.Need-slice-write-answers-6 Inv-loop μ-loop
+slice-write-answers-6 c =
+    let t = c .before .before .before .before .before in
+    simp length-set (fits-at _ _ _ _ (t .before .loop .inv) (t .loop-test .taken) 5 (lit< tt))
+
 loop-again : tie.Need-loop-again Inv-loop μ-loop
 loop-again c =
     let t = c .before .before .before .before .before .before in
@@ -83,6 +88,10 @@ replay-spec =
     (λ c. search needs)
     (λ c. search needs)
     slice-write-answers-5
+    (λ c. search needs)
+    (λ c. search needs)
+    (λ c. search needs)
+    slice-write-answers-6
     (λ c. search needs)
     (λ c. search needs)
     loop-again

@@ -29,13 +29,14 @@ advance-requires c κs =
 
 loop-again : tie.Need-loop-again Inv-loop μ-loop
 loop-again c =
-    let k = c .before in
+    let a = c .before in
+    let k = a .before in
     let p = k .before in
     let w = p .before .before .before in
     let l = w .before .loop in
-    let r = c .advance .ensures in
+    let r = a .advance .ensures in
     running-on (l .inv) (w .loop-test .taken) (k .entry-cycles .ensures) (p .before .entry-pins .ensures)
-    (run-taken _ (l .run .device) (p .pins-of .ensures) _ (r .1)) (laps-taken _ (l .run .device) (p .pins-of .ensures) _ (l .run .totals) (r .0))
+    (run-taken _ (l .run .device) (p .pins-of .ensures) _ (r .2)) (laps-taken _ (l .run .device) (p .pins-of .ensures) _ (l .run .totals) (r .1))
 
 returns : tie.Need-returns Inv-loop μ-loop
 returns c =

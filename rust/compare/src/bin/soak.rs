@@ -158,12 +158,14 @@ fn main() {
     let Loads { passed, bad_length, bad_layout, bad_value } = total.loads;
     println!(
         "{} raw records in {} calls, {} cycles of lists in {} calls, runs with overflows of Timers 0, 1, 2: {timer0}, {timer1}, \
-         {timer2}; {} saves, loads passed and refused by 15, 16, 17: {passed}, {bad_length}, {bad_layout}, {bad_value}; {} speeds \
-         ({found} found, {none} none, {refused} refused), {} s: no difference",
+         {timer2}; jumps of one round and of more: {}, {}; {} saves, loads passed and refused by 15, 16, 17: {passed}, {bad_length}, \
+         {bad_layout}, {bad_value}; {} speeds ({found} found, {none} none, {refused} refused), {} s: no difference",
         soak.records,
         soak.on_records.calls,
         soak.lists.cycles,
         soak.lists.calls,
+        total.of_one_round,
+        total.of_more_rounds,
         total.saved,
         soak.speeds.calls(),
         soak.start.elapsed().as_secs()
