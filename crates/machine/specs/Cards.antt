@@ -5,6 +5,7 @@ use mathlib.Core.Path.{_≡_, refl}
 use mathlib.Core.Bool.{Bool, true, cond, _&&_}
 use mathlib.Core.List.{List, [], _∷_, _++_, map}
 use lib.Dec.{eqb}
+use lib.ListN.{take as first}
 use Rattle.machine.specs.declared.FlagTimes.{FlagTimes}
 use Rattle.machine.specs.declared.Device.{Device}
 use Rattle.machine.specs.Registers.{PCON, TCON, TMOD, TL0, TL1, TH0, TH1, SCON, SBUF, IE, IP, T2CON, RCAP2L, RCAP2H, TL2, TH2, table, implementedIn, implemented}
@@ -18,9 +19,9 @@ use Rattle.machine.specs.Flags.{flags, risen, anyRises}
 use Rattle.machine.specs.Times.{noted, timesAfter, pairsOk, never}
 use Rattle.machine.specs.Cycle.{falls, counted, externals, timersAfter, timer2After, ticksIn, steps as stepsOf, cycleOf, cycles}
 use Rattle.machine.specs.Totals.{totalsNext, totals}
-use Rattle.machine.specs.Rounds.{overflows, working, watched, busy, marks, busyCycles, quietRuns, rounds as roundsOf}
+use Rattle.machine.specs.Rounds.{overflows, working, watched, busy, marks, busyCycles, quietRuns, rounds}
 use Rattle.machine.specs.Calls.{resetAnswer, valueIn, registerAt, readAnswer, stored, writeAnswer, cycleAnswer, cyclesFault, jumpAnswer, entryFault, firstBad, traceFault, traceCycles, traceTotals, traceAnswer, firstCycle, lookAnswer, wakeAnswer, offerOf, offerAnswer, takeOf, takeAnswer, returnAnswer}
-use Rattle.machine.specs.Lists.{Call, Reply, Ran, nothing, number, says, play, run}
+use Rattle.machine.specs.Lists.{Call, Value, Reply, Ran, nothing, number, says, play, run}
 use Rattle.machine.specs.Lists.Call.{reset, read, write, cycle, jump, trace, look, offer, take, return, wake}
 use Rattle.machine.specs.Lists.Value.{numbers, none}
 use Rattle.machine.specs.Same.{same}
@@ -50,7 +51,7 @@ passes = says 0 nothing
 abbrev gives : ℕ → Reply
 gives n = says 0 (number n)
 
--- a trace run passes, and gives the overflows of Timers 0, 1 and 2; one that is refused gives zeros
+-- a jump or a trace run passes, and gives the overflows of Timers 0, 1 and 2; one that is refused gives zeros
 abbrev laps : ℕ → ℕ → ℕ → Reply
 laps t0 t1 t2 = says 0 (numbers (t0 ∷ t1 ∷ t2 ∷ []))
 
@@ -59,13 +60,6 @@ noLaps = laps 0 0 0
 
 abbrev refusesRun : ℕ → Reply
 refusesRun n = says n (numbers (0 ∷ 0 ∷ 0 ∷ []))
-
--- and so does a jump, with its rounds
-abbrev rounds : ℕ → ℕ → ℕ → ℕ → Reply
-rounds t0 t1 t2 n = says 0 (numbers (t0 ∷ t1 ∷ t2 ∷ n ∷ []))
-
-abbrev refusesJump : ℕ → Reply
-refusesJump n = says n (numbers (0 ∷ 0 ∷ 0 ∷ 0 ∷ []))
 
 -- every pin high; one pin low
 abbrev high : ℕ
@@ -93,12 +87,12 @@ lowT2EX = 0x3f
 abbrev set : ℕ → ℕ → Asked
 set a v = asked (write a v) passes
 
--- n cycles by one jump, pins high, in which the timers overflow so often, in so many rounds; and in which none does
-abbrev goes : ℕ → ℕ → ℕ → ℕ → ℕ → Asked
-goes n t0 t1 t2 r = asked (jump high n) (rounds t0 t1 t2 r)
+-- n cycles by one jump, pins high, in which the timers overflow so often; and in which none does
+abbrev goes : ℕ → ℕ → ℕ → ℕ → Asked
+goes n t0 t1 t2 = asked (jump high n) (laps t0 t1 t2)
 
-abbrev go : ℕ → ℕ → Asked
-go n r = goes n 0 0 0 r
+abbrev go : ℕ → Asked
+go n = goes n 0 0 0
 
 -- one cycle, whose line stays high
 abbrev step : ℕ → Asked
@@ -121,15 +115,27 @@ wakes n k = asked (wake high n) (gives k)
 abbrev wakesNone : ℕ → Asked
 wakesNone n = asked (wake high n) (says 0 none)
 
--- a row whose replies are all given, and whose device at the end passes a test
-rowFrom : Device → (Device → Bool) → ℕ → List Asked → Row
-rowFrom start ends card steps =
+-- a reply without a fourth number, which only a jump has: its rounds. Cards 37 to 42 give them; computing them in every card takes the
+-- checker as long again as all else
+shorn : Value → Value
+shorn (numbers ns) = numbers (first 3 ns)
+shorn none = none
+
+withoutRounds : Reply → Reply
+withoutRounds r = says (r .code) (shorn (r .value))
+
+-- a row whose replies are all given, as they are or without rounds, and whose device at the end passes a test
+rowBy : (Reply → Reply) → Device → (Device → Bool) → ℕ → List Asked → Row
+rowBy given start ends card steps =
     record {
       card = card;
       start = start;
       calls = map (λ (a : Asked). a .call) steps;
-      test = λ r. sameReplies (r .replies) (map (λ (a : Asked). a .reply) steps) && ends (r .device);
+      test = λ r. sameReplies (map given (r .replies)) (map (λ (a : Asked). a .reply) steps) && ends (r .device);
     }
+
+rowFrom : Device → (Device → Bool) → ℕ → List Asked → Row
+rowFrom = rowBy withoutRounds
 
 -- from reset
 abbrev rowWith : (Device → Bool) → ℕ → ℕ → List Asked → Row
@@ -137,6 +143,10 @@ rowWith ends card kind steps = rowFrom (resetAnswer kind .device) ends card step
 
 abbrev rowOf : ℕ → ℕ → List Asked → Row
 rowOf = rowWith (λ d. true)
+
+-- with the rounds of each jump
+abbrev rowRounds : ℕ → ℕ → List Asked → Row
+rowRounds card kind steps = rowBy (λ r. r) (resetAnswer kind .device) (λ d. true) card steps
 
 -- Timer 0 mode 1 at FFFE, running, IE 82: TF0 rises in cycle 2; none offered after 2, 000B after 3
 card1 : ℕ → Row
@@ -192,7 +202,7 @@ card3 kind =
     ∷ set SCON 0x40
     ∷ set SBUF 0x00
     ∷ set TCON 0x40
-    ∷ goes 101 0 34 0 101
+    ∷ goes 101 0 34 0
     ∷ holds TL1 0xfd
     ∷ []
     )
@@ -203,7 +213,7 @@ card4 kind =
     rowOf 4 kind (
     set TMOD 0x05
     ∷ set TCON 0x10
-    ∷ go 4 1
+    ∷ go 4
     ∷ step lowT0
     ∷ holds TL0 0
     ∷ step lowT0
@@ -248,17 +258,17 @@ mode1send pcon =
 
 -- SMOD 1: TI in cycle 160
 card6 : ℕ → Row
-card6 kind = rowOf 6 kind (mode1send 0x80 ++ (goes 159 0 159 0 159 ∷ holds SCON 0x40 ∷ goes 1 0 1 0 1 ∷ holds SCON 0x42 ∷ []))
+card6 kind = rowOf 6 kind (mode1send 0x80 ++ (goes 159 0 159 0 ∷ holds SCON 0x40 ∷ goes 1 0 1 0 ∷ holds SCON 0x42 ∷ []))
 
 -- SMOD 0: 320, by two jumps with half set between them
 card6half : ℕ → Row
-card6half kind = rowOf 6 kind (mode1send 0x00 ++ (goes 159 0 159 0 159 ∷ goes 160 0 160 0 160 ∷ holds SCON 0x40 ∷ goes 1 0 1 0 1 ∷ holds SCON 0x42 ∷ []))
+card6half kind = rowOf 6 kind (mode1send 0x00 ++ (goes 159 0 159 0 ∷ goes 160 0 160 0 ∷ holds SCON 0x40 ∷ goes 1 0 1 0 ∷ holds SCON 0x42 ∷ []))
 
 -- the same, SMOD 1, after a jump of 1: look ahead 159 gives 159, 158 gives none
 card7 : ℕ → Row
 card7 kind =
     rowOf 7 kind
-    (mode1send 0x80 ++ (goes 1 0 1 0 1 ∷ asked (look high 159) (gives 159) ∷ asked (look high 158) (says 0 none) ∷ []))
+    (mode1send 0x80 ++ (goes 1 0 1 0 ∷ asked (look high 159) (gives 159) ∷ asked (look high 158) (says 0 none) ∷ []))
 
 -- serial mode 2 send: TI in cycle 30 with SMOD 1, 59 with 0
 card8 : ℕ → ℕ → ℕ → Row
@@ -267,16 +277,16 @@ card8 pcon n kind =
     set PCON pcon
     ∷ set SCON 0x80
     ∷ set SBUF 0x5a
-    ∷ go n n
+    ∷ go n
     ∷ holds SCON 0x80
-    ∷ go 1 1
+    ∷ go 1
     ∷ holds SCON 0x82
     ∷ []
     )
 
 -- serial mode 0: 10
 card8shift : ℕ → Row
-card8shift kind = rowOf 8 kind (set SBUF 0x5a ∷ go 9 9 ∷ holds SCON 0x00 ∷ go 1 1 ∷ holds SCON 0x02 ∷ [])
+card8shift kind = rowOf 8 kind (set SBUF 0x5a ∷ go 9 ∷ holds SCON 0x00 ∷ go 1 ∷ holds SCON 0x02 ∷ [])
 
 -- IE 92, IP 10, TF0 and TI polled: 0023; after take none; after return 000B
 card9 : ℕ → Row
@@ -286,7 +296,7 @@ card9 kind =
     ∷ set IP 0x10
     ∷ set TCON 0x20
     ∷ set SCON 0x02
-    ∷ go 2 2
+    ∷ go 2
     ∷ offers 0x23
     ∷ asked take (gives 0x23)
     ∷ offersNone
@@ -321,7 +331,7 @@ card11 kind =
     ∷ set TCON 0x10
     ∷ set PCON 0x81
     ∷ wakes 9 3
-    ∷ goes 3 1 0 0 3
+    ∷ goes 3 1 0 0
     ∷ offers 0x0b
     ∷ holds PCON 0x81
     ∷ asked take (gives 0x0b)
@@ -336,11 +346,11 @@ card12 kind =
     rowWith (λ d. eqb (d .cycle) 2) 12 kind (
     set IE 0x82
     ∷ set TCON 0x30
-    ∷ go 2 2
+    ∷ go 2
     ∷ offers 0x0b
     ∷ set PCON 0x03
     ∷ step lowINT0
-    ∷ asked (jump lowINT0 1000) (rounds 0 0 0 1)
+    ∷ asked (jump lowINT0 1000) noLaps
     ∷ asked (trace (0x7d000005 ∷ [])) noLaps
     ∷ asked (look lowINT0 1000) (says 0 none)
     ∷ holds TCON 0x30
@@ -356,10 +366,10 @@ card12line kind =
     rowOf 12 kind (
     set SCON 0x80
     ∷ set SBUF 0xff
-    ∷ go 6 6
+    ∷ go 6
     ∷ set PCON 0x02
     ∷ asked (cycle high) (gives 0)
-    ∷ go 100 1
+    ∷ go 100
     ∷ asked (cycle high) (gives 0)
     ∷ []
     )
@@ -376,7 +386,7 @@ card13 kind =
     ∷ asked return (says 10 nothing)
     ∷ asked (read 0x80) (says 3 (number 0))
     ∷ asked (cycle 0x80) (says 4 (number 0))
-    ∷ asked (jump high 0x10000000001) (refusesJump 5)
+    ∷ asked (jump high 0x10000000001) (refusesRun 5)
     ∷ asked (trace (0x7f000000 ∷ [])) (refusesRun 8)
     ∷ []
     )
@@ -389,10 +399,10 @@ card14 kind =
     ∷ set TCON 0x20
     ∷ wakes 9 2
     ∷ wakesNone 1
-    ∷ go 1 1
+    ∷ go 1
     ∷ wakes 1 1
     ∷ wakesNone 0
-    ∷ go 1 1
+    ∷ go 1
     ∷ wakes 0 0
     ∷ wakes 9 0
     ∷ []
@@ -404,7 +414,7 @@ card15 kind =
     rowWith (λ d. eqb (d .cycle) 1) 15 kind (
     set IE 0x82
     ∷ set TCON 0x20
-    ∷ go 2 2
+    ∷ go 2
     ∷ set PCON 0x02
     ∷ wakesNone 9
     ∷ wakesNone 0
@@ -507,7 +517,7 @@ card19 reload steps =
 -- as a baud rate generator, which overflows six times a cycle from FFFF and once from FFFA, it sets no TF2, and nothing is offered
 card20 : ℕ → ℕ → ℕ → Row
 card20 t2con count laps =
-    rowOf 20 52 (timer2At count count ++ (set T2CON t2con ∷ wakesNone 9 ∷ goes 9 0 0 laps 9 ∷ holds T2CON t2con ∷ offersNone ∷ []))
+    rowOf 20 52 (timer2At count count ++ (set T2CON t2con ∷ wakesNone 9 ∷ goes 9 0 0 laps ∷ holds T2CON t2con ∷ offersNone ∷ []))
 
 -- nor where it counts T2, which falls in cycle 1 and is counted in cycle 2
 card20counter : Row
@@ -531,7 +541,7 @@ card22 kind =
     set IE 0x9a
     ∷ set TCON 0xa0
     ∷ set SCON 0x02
-    ∷ go 2 2
+    ∷ go 2
     ∷ offers 0x0b
     ∷ asked take (gives 0x0b)
     ∷ offersNone
@@ -557,14 +567,14 @@ card23 kind =
     rowOf 23 kind (
     set IE 0x82
     ∷ set TCON 0x20
-    ∷ go 1 1
+    ∷ go 1
     ∷ offersNone
-    ∷ go 1 1
+    ∷ go 1
     ∷ offers 0x0b
     ∷ set TCON 0x00
-    ∷ go 1 1
+    ∷ go 1
     ∷ offers 0x0b
-    ∷ go 1 1
+    ∷ go 1
     ∷ offersNone
     ∷ []
     )
@@ -590,38 +600,38 @@ timer0Near : List Asked
 timer0Near = set TMOD 0x01 ∷ set TH0 0xff ∷ set TL0 0xfe ∷ set TCON 0x10 ∷ []
 
 -- the same: TF0 rises by the overflow in cycle 2, and its number is 2; it stays 2
-card24 : ℕ → ℕ → ℕ → Row
-card24 n r kind = rowWith (rose 0 2) 24 kind (timer0Near ++ goes n 1 0 0 r ∷ [])
+card24 : ℕ → ℕ → Row
+card24 n kind = rowWith (rose 0 2) 24 kind (timer0Near ++ goes n 1 0 0 ∷ [])
 
 -- a flag that software writes never counts, nor does one that is 1 by software when the overflow sets it again
 card25 : List Asked → ℕ → ℕ → Row
-card25 writes laps kind = rowWith neverRose 25 kind (writes ++ goes 9 laps 0 0 3 ∷ [])
+card25 writes laps kind = rowWith neverRose 25 kind (writes ++ goes 9 laps 0 0 ∷ [])
 
 -- TF0 rises in cycle 2; cleared, with the timer at FFFE again, it rises in cycle 4, and its number is the later one
 card26 : ℕ → Row
-card26 kind = rowWith (rose 0 4) 26 kind (timer0Near ++ goes 2 1 0 0 2 ∷ set TCON 0x10 ∷ set TH0 0xff ∷ set TL0 0xfe ∷ goes 9 1 0 0 4 ∷ [])
+card26 kind = rowWith (rose 0 4) 26 kind (timer0Near ++ goes 2 1 0 0 ∷ set TCON 0x10 ∷ set TH0 0xff ∷ set TL0 0xfe ∷ goes 9 1 0 0 ∷ [])
 
 -- Timer 0 mode 2, reload FF: it overflows in cycle 2 and in every one after it, and TF0, which stays 1, has risen in cycle 2 alone
 card26again : ℕ → Row
-card26again kind = rowWith (rose 0 2) 26 kind (set TMOD 0x02 ∷ set TH0 0xff ∷ set TL0 0xfe ∷ set TCON 0x10 ∷ goes 9 8 0 0 9 ∷ [])
+card26again kind = rowWith (rose 0 2) 26 kind (set TMOD 0x02 ∷ set TH0 0xff ∷ set TL0 0xfe ∷ set TCON 0x10 ∷ goes 9 8 0 0 ∷ [])
 
 -- each flag: n cycles with a pin byte leave the same pair as single cycles, as a jump, as two jumps and as a trace run; no timer overflows
--- in the first of them, which is a round of its own
+-- in the first of them
 singles : ℕ → ℕ → List Asked
 singles pins zero = []
 singles pins (suc n) = step pins ∷ singles pins n
 
-ways : ℕ → ℕ → (ℕ → Reply) → Reply → ℕ → List (List Asked)
-ways pins n jumps traced r =
+ways : ℕ → ℕ → Reply → List (List Asked)
+ways pins n totals =
     singles pins n
-    ∷ (asked (jump pins n) (jumps r) ∷ [])
-    ∷ (asked (jump pins 1) (rounds 0 0 0 1) ∷ asked (jump pins (n - 1)) (jumps (r - 1)) ∷ [])
-    ∷ (asked (trace ((pins * 0x1000000 + n) ∷ [])) traced ∷ [])
+    ∷ (asked (jump pins n) totals ∷ [])
+    ∷ (asked (jump pins 1) noLaps ∷ asked (jump pins (n - 1)) totals ∷ [])
+    ∷ (asked (trace ((pins * 0x1000000 + n) ∷ [])) totals ∷ [])
     ∷ []
 
-card27 : ℕ → ℕ → List Asked → ℕ → ℕ → ℕ → ℕ → ℕ → ℕ → ℕ → List Row
-card27 place last writes pins n t0 t1 t2 r kind =
-    map (λ (way : List Asked). rowWith (rose place last) 27 kind (writes ++ way)) (ways pins n (rounds t0 t1 t2) (laps t0 t1 t2) r)
+card27 : ℕ → ℕ → List Asked → ℕ → ℕ → Reply → ℕ → List Row
+card27 place last writes pins n totals kind =
+    map (λ (way : List Asked). rowWith (rose place last) 27 kind (writes ++ way)) (ways pins n totals)
 
 -- the device with another cycle number and other flag times
 timed : ℕ → FlagTimes → Device → Device
@@ -640,7 +650,7 @@ timed n times d =
 
 -- card 24 from the cycle number 2^64 - 2: the number wraps with the cycle number, and the flag rose all the same
 card28 : ℕ → Row
-card28 kind = rowFrom (timed (2 ^ 64 - 2) never (resetOf kind)) (rose 0 0) 28 (timer0Near ++ goes 2 1 0 0 2 ∷ [])
+card28 kind = rowFrom (timed (2 ^ 64 - 2) never (resetOf kind)) (rose 0 0) 28 (timer0Near ++ goes 2 1 0 0 ∷ [])
 
 -- what is no cycle keeps the pairs: reads, looks, offers, a take and a return, every refused call, and power-down
 card29 : ℕ → Row
@@ -648,29 +658,29 @@ card29 kind =
     rowWith (rose 0 2) 29 kind (
     timer0Near
     ++ set IE 0x82
-    ∷ goes 2 1 0 0 2
+    ∷ goes 2 1 0 0
     ∷ holds TCON 0x30
     ∷ asked (look high 9) (says 0 none)
     ∷ wakes 9 1
     ∷ asked (write 0x80 0x00) (says 3 nothing)
     ∷ asked (cycle 0x80) (says 4 (number 0))
-    ∷ asked (jump high 0x10000000001) (refusesJump 5)
+    ∷ asked (jump high 0x10000000001) (refusesRun 5)
     ∷ asked take (says 6 (number 0))
     ∷ asked return (says 7 nothing)
     ∷ asked (trace (0x7f000000 ∷ [])) (refusesRun 8)
-    ∷ go 1 1
+    ∷ go 1
     ∷ offers 0x0b
     ∷ asked take (gives 0x0b)
     ∷ asked return passes
     ∷ set PCON 0x02
-    ∷ go 9 1
+    ∷ go 9
     ∷ asked (write TCON 0x00) (says 10 nothing)
     ∷ []
     )
 
 -- reset clears them
 card29reset : ℕ → Row
-card29reset kind = rowWith neverRose 29 kind (timer0Near ++ goes 2 1 0 0 2 ∷ asked (reset kind) passes ∷ [])
+card29reset kind = rowWith neverRose 29 kind (timer0Near ++ goes 2 1 0 0 ∷ asked (reset kind) passes ∷ [])
 
 -- a record with one pair set: never with a number and an ever above 1 are refused by 1 and stay as they are, ever with any number is
 -- accepted; at any place
@@ -689,15 +699,15 @@ good place last = card30 place 1 last (step high ∷ [])
 -- none of Timer 1's
 card31 : ℕ → Row
 card31 kind =
-    rowOf 31 kind (set TMOD 0x03 ∷ set TL0 0xff ∷ set TH0 0xff ∷ set TCON 0x50 ∷ goes 1 2 0 0 1 ∷ holds TCON 0xf0 ∷ go 255 2 ∷ goes 1 2 0 0 1 ∷ [])
+    rowOf 31 kind (set TMOD 0x03 ∷ set TL0 0xff ∷ set TH0 0xff ∷ set TCON 0x50 ∷ goes 1 2 0 0 ∷ holds TCON 0xf0 ∷ go 255 ∷ goes 1 2 0 0 ∷ [])
 
 -- Timer 1 in mode 2, TH1 FD, TL1 FE, with Timer 0 in mode 3: it overflows 34 times in 101 cycles and sets no flag
 card32 : ℕ → Row
-card32 kind = rowOf 32 kind (set TMOD 0x23 ∷ set TH1 0xfd ∷ set TL1 0xfe ∷ goes 101 0 34 0 68 ∷ holds TCON 0x00 ∷ [])
+card32 kind = rowOf 32 kind (set TMOD 0x23 ∷ set TH1 0xfd ∷ set TL1 0xfe ∷ goes 101 0 34 0 ∷ holds TCON 0x00 ∷ [])
 
 -- RCLK, RCAP2 and count FFFD: 2 overflows a cycle; FFFF: 6
 card33 : Row
-card33 = rowOf 33 52 (baud2 ++ (goes 1 0 0 2 1 ∷ goes 100 0 0 200 100 ∷ set RCAP2L 0xff ∷ set TL2 0xff ∷ goes 9 0 0 54 9 ∷ []))
+card33 = rowOf 33 52 (baud2 ++ (goes 1 0 0 2 ∷ goes 100 0 0 200 ∷ set RCAP2L 0xff ∷ set TL2 0xff ∷ goes 9 0 0 54 ∷ []))
 
 -- with auto-reload, RCAP2 and count FFFF: one a cycle. A reload by T2EX is none: it falls in the first of two cycles, and the count goes
 -- from 1234 to RCAP2
@@ -706,12 +716,12 @@ card33reload =
     rowOf 33 52 (
     timer2At 0xff 0xff
     ++ set T2CON 0x04
-    ∷ goes 9 0 0 9 9
+    ∷ goes 9 0 0 9
     ∷ set T2CON 0x0c
     ∷ set RCAP2L 0x00
     ∷ set TH2 0x12
     ∷ set TL2 0x34
-    ∷ asked (jump lowT2EX 2) (rounds 0 0 0 2)
+    ∷ asked (jump lowT2EX 2) noLaps
     ∷ holds TH2 0xff
     ∷ holds TL2 0x01
     ∷ []
@@ -729,9 +739,9 @@ card34 =
     ∷ set TL1 0xfe
     ∷ set T2CON 0x04
     ∷ set TCON 0x50
-    ∷ go 1 1
-    ∷ goes 1 1 1 1 1
-    ∷ go 99 2
+    ∷ go 1
+    ∷ goes 1 1 1 1
+    ∷ go 99
     ∷ []
     )
 
@@ -744,19 +754,19 @@ card35 kind =
     ∷ set TH1 0xff
     ∷ set TL1 0xff
     ∷ set TCON 0x40
-    ∷ goes 9 0 9 0 9
-    ∷ go 0 0
+    ∷ goes 9 0 9 0
+    ∷ go 0
     ∷ asked (trace []) noLaps
-    ∷ asked (jump 0x80 9) (refusesJump 4)
-    ∷ asked (jump high 0x10000000001) (refusesJump 5)
+    ∷ asked (jump 0x80 9) (refusesRun 4)
+    ∷ asked (jump high 0x10000000001) (refusesRun 5)
     ∷ asked (trace (0x7f000009 ∷ 0x80000009 ∷ [])) (refusesRun 4)
     ∷ asked (trace (0x7f000009 ∷ 0x7f000000 ∷ [])) (refusesRun 8)
-    ∷ goes 1 0 1 0 1
+    ∷ goes 1 0 1 0
     ∷ set PCON 0x02
-    ∷ go 9 1
+    ∷ go 9
     ∷ asked (trace (0x7f000009 ∷ [])) noLaps
     ∷ asked (reset 50) (says 2 nothing)
-    ∷ asked (jump high 9) (refusesJump 1)
+    ∷ asked (jump high 9) (refusesRun 1)
     ∷ asked (trace (0x7f000009 ∷ [])) (refusesRun 1)
     ∷ []
     )
@@ -766,16 +776,30 @@ card36 : List Asked → ℕ → Row
 card36 runs kind =
     rowOf 36 kind (set TMOD 0x20 ∷ set TH1 0xfd ∷ set TL1 0xfe ∷ set TCON 0x40 ∷ (runs ++ holds TL1 0xfd ∷ []))
 
--- Request Nine. A device at rest: 1,000 cycles are one round, 0 cycles none, and what 1, 4 or 5 refuses answers none
+-- Request Nine. A jump gives its rounds after the overflows; one that is refused gives four zeros
+abbrev rounded : ℕ → ℕ → ℕ → ℕ → Reply
+rounded t0 t1 t2 r = says 0 (numbers (t0 ∷ t1 ∷ t2 ∷ r ∷ []))
+
+abbrev refusesRounds : ℕ → Reply
+refusesRounds n = says n (numbers (0 ∷ 0 ∷ 0 ∷ 0 ∷ []))
+
+-- n cycles by one jump, pins high, in which the timers overflow so often, in so many rounds; and in which none does
+abbrev takes : ℕ → ℕ → ℕ → ℕ → ℕ → Asked
+takes n t0 t1 t2 r = asked (jump high n) (rounded t0 t1 t2 r)
+
+abbrev quiet : ℕ → ℕ → Asked
+quiet n r = takes n 0 0 0 r
+
+-- A device at rest: 1,000 cycles are one round, 0 cycles none, and what 1, 4 or 5 refuses answers none
 card37 : ℕ → Row
 card37 kind =
-    rowOf 37 kind (
-    go 1000 1
-    ∷ go 0 0
-    ∷ asked (jump 0x80 9) (refusesJump 4)
-    ∷ asked (jump high 0x10000000001) (refusesJump 5)
+    rowRounds 37 kind (
+    quiet 1000 1
+    ∷ quiet 0 0
+    ∷ asked (jump 0x80 9) (refusesRounds 4)
+    ∷ asked (jump high 0x10000000001) (refusesRounds 5)
     ∷ asked (reset 50) (says 2 nothing)
-    ∷ asked (jump high 9) (refusesJump 1)
+    ∷ asked (jump high 9) (refusesRounds 1)
     ∷ []
     )
 
@@ -784,16 +808,16 @@ card37 kind =
 -- they are 67
 card38 : ℕ → Row
 card38 kind =
-    rowOf 38 kind (
+    rowRounds 38 kind (
     set TMOD 0x20
     ∷ set TH1 0xfd
     ∷ set TL1 0xfd
     ∷ set SCON 0x50
     ∷ set TCON 0xc0
-    ∷ goes 3 0 1 0 3
-    ∷ goes 99 0 33 0 66
-    ∷ go 1 1
-    ∷ goes 98 0 33 0 66
+    ∷ takes 3 0 1 0 3
+    ∷ takes 99 0 33 0 66
+    ∷ quiet 1 1
+    ∷ takes 98 0 33 0 66
     ∷ []
     )
 
@@ -801,41 +825,41 @@ card38 kind =
 -- cycle, they are one, also where a pin changes
 card39 : ℕ → Row
 card39 kind =
-    rowOf 39 kind (
+    rowRounds 39 kind (
     set SCON 0x40
     ∷ set SBUF 0x55
-    ∷ go 50 50
+    ∷ quiet 50 50
     ∷ set TMOD 0x20
     ∷ set TH1 0xff
     ∷ set TL1 0xff
     ∷ set TCON 0x40
-    ∷ goes 9 0 9 0 9
+    ∷ takes 9 0 9 0 9
     ∷ set PCON 0x02
-    ∷ go 50 1
-    ∷ go 0 0
-    ∷ asked (jump lowT0 50) (rounds 0 0 0 1)
+    ∷ quiet 50 1
+    ∷ quiet 0 0
+    ∷ asked (jump lowT0 50) (rounded 0 0 0 1)
     ∷ []
     )
 
 -- a pin that falls is a busy cycle by its level, and T0 one more by its due mark, which goes again; a level alone is one
 card40 : ℕ → Row
 card40 kind =
-    rowOf 40 kind (
-    asked (jump lowT0 9) (rounds 0 0 0 3)
-    ∷ asked (jump lowT0 9) (rounds 0 0 0 1)
-    ∷ go 9 2
-    ∷ asked (jump lowRXD 9) (rounds 0 0 0 2)
+    rowRounds 40 kind (
+    asked (jump lowT0 9) (rounded 0 0 0 3)
+    ∷ asked (jump lowT0 9) (rounded 0 0 0 1)
+    ∷ quiet 9 2
+    ∷ asked (jump lowRXD 9) (rounded 0 0 0 2)
     ∷ []
     )
 
 -- INT0 low, by level: IE0 rises in the first cycle and is polled in the second; high again, it falls, which is as busy. IE0 written by
 -- software falls in the next cycle, and nothing else changes
 card41 : ℕ → Row
-card41 kind = rowOf 41 kind (asked (jump lowINT0 9) (rounds 0 0 0 3) ∷ go 9 3 ∷ go 9 1 ∷ set TCON 0x02 ∷ go 9 2 ∷ [])
+card41 kind = rowRounds 41 kind (asked (jump lowINT0 9) (rounded 0 0 0 3) ∷ quiet 9 3 ∷ quiet 9 1 ∷ set TCON 0x02 ∷ quiet 9 2 ∷ [])
 
 -- serial mode 0, a byte sent and one received, 10 cycles each, then the flags polled, then a run
 card42 : ℕ → Row
-card42 kind = rowOf 42 kind (set SBUF 0x5a ∷ go 12 12 ∷ set SCON 0x10 ∷ go 20 12 ∷ [])
+card42 kind = rowRounds 42 kind (set SBUF 0x5a ∷ quiet 12 12 ∷ set SCON 0x10 ∷ quiet 20 12 ∷ [])
 
 -- on both kinds
 both : (ℕ → Row) → List Row
@@ -878,7 +902,7 @@ cards =
     ∷ both card16
     ∷ (card17 0x04 0x84
     ∷ card17 0x05 0x85
-    ∷ card17by (goes 2 0 0 1 2)
+    ∷ card17by (goes 2 0 0 1)
     ∷ card17by (asked (trace (0x7f000002 ∷ [])) (laps 0 0 1))
     ∷ card17counter 0x06 0x86
     ∷ card17counter 0x07 0x87
@@ -903,21 +927,21 @@ cards =
     ∷ [])
     ∷ both card22
     ∷ both card23
-    ∷ both (card24 2 2)
-    ∷ both (card24 9 4)
+    ∷ both (card24 2)
+    ∷ both (card24 9)
     ∷ both (card25 (set TCON 0xaa ∷ set SCON 0x03 ∷ []) 0)
     ∷ both (card25 (timer0Near ++ set TCON 0x30 ∷ []) 1)
     ∷ (card25 (set T2CON 0xc0 ∷ []) 0 52 ∷ [])
     ∷ both card26
     ∷ both card26again
-    ∷ card27 0 2 timer0Near high 4 1 0 0 4 51
-    ∷ card27 1 2 (set TMOD 0x10 ∷ set TH1 0xff ∷ set TL1 0xfe ∷ set TCON 0x40 ∷ []) high 4 0 1 0 4 51
-    ∷ card27 2 1 (set TCON 0x01 ∷ []) lowINT0 3 0 0 0 3 51
-    ∷ card27 3 1 (set TCON 0x04 ∷ []) lowINT1 3 0 0 0 3 51
-    ∷ card27 4 10 (set SCON 0x10 ∷ []) high 12 0 0 0 12 51
-    ∷ card27 5 10 (set SBUF 0xff ∷ []) high 12 0 0 0 12 51
-    ∷ card27 6 2 (set TH2 0xff ∷ set TL2 0xfe ∷ set T2CON 0x04 ∷ []) high 4 0 0 1 3 52
-    ∷ card27 7 1 (set T2CON 0x0c ∷ []) lowT2EX 3 0 0 0 3 52
+    ∷ card27 0 2 timer0Near high 4 (laps 1 0 0) 51
+    ∷ card27 1 2 (set TMOD 0x10 ∷ set TH1 0xff ∷ set TL1 0xfe ∷ set TCON 0x40 ∷ []) high 4 (laps 0 1 0) 51
+    ∷ card27 2 1 (set TCON 0x01 ∷ []) lowINT0 3 noLaps 51
+    ∷ card27 3 1 (set TCON 0x04 ∷ []) lowINT1 3 noLaps 51
+    ∷ card27 4 10 (set SCON 0x10 ∷ []) high 12 noLaps 51
+    ∷ card27 5 10 (set SBUF 0xff ∷ []) high 12 noLaps 51
+    ∷ card27 6 2 (set TH2 0xff ∷ set TL2 0xfe ∷ set T2CON 0x04 ∷ []) high 4 (laps 0 0 1) 52
+    ∷ card27 7 1 (set T2CON 0x0c ∷ []) lowT2EX 3 noLaps 52
     ∷ both card28
     ∷ both card29
     ∷ both card29reset
@@ -931,12 +955,10 @@ cards =
     ∷ both card32
     ∷ (card33 ∷ card33reload ∷ card34 ∷ [])
     ∷ both card35
-    ∷ both (card36 (goes 101 0 34 0 69 ∷ []))
-    ∷ both (card36 (goes 49 0 16 0 34 ∷ goes 52 0 18 0 35 ∷ []))
+    ∷ both (card36 (goes 101 0 34 0 ∷ []))
+    ∷ both (card36 (goes 49 0 16 0 ∷ goes 52 0 18 0 ∷ []))
     ∷ both (card36 (asked (trace (0x7f000001 ∷ 0x7f000030 ∷ 0x7f000034 ∷ [])) (laps 0 34 0) ∷ []))
-    ∷ both card37
-    ∷ both card38
-    ∷ both card39
+    ∷ (card37 51 ∷ card38 52 ∷ card39 51 ∷ [])
     ∷ both card40
     ∷ both card41
     ∷ both card42
@@ -953,5 +975,15 @@ failing = failingBy (λ (r : Row). r .card) (λ (r : Row). r .test (run (r .call
 
 -- no row fails
 cards-hold : failing cards ≡ []
-unfolding same sameValue sameReply sameReplies rowFrom card1 card2 card3 card4 baud2 card5 card5counted mode1send card6 card6half card7 card8 card8shift card9 card10 card11 card12 card12line card13 card14 card15 card16 timer2At card17 card17by card17counter card18 card18both card19 card20 card20counter card21 card21again card22 card23 placed rose neverRose timer0Near card24 card25 card26 card26again singles ways card27 timed card28 card29 card29reset card30 bad good card31 card32 card33 card33reload card34 card35 card36 card37 card38 card39 card40 card41 card42 both joined cards failing failingBy table implementedIn implemented registers hiddenFields accepted pinsOf levelsOf zeros resetOf count13 count16 reload8 count8 hold enabled clocked countIn flagged counts0 counts1 countsHigh0 pair0 high0 highOverflow0 pair1 timerFlags timersStep countOnce countTimes baudRate countsOf2 heedsT2EX captures counted2 baudStep copied2 captureStep timer2Step halfAfter ticks1 ticksOf serialTicks sendMove sendTick sendTicks send lineOf startFound receiveStart receiveRolled receiveCounted votesAdded bitOf frameDone receiveBit receiveWork receiveTick receiveTicks receiveShift receive serialStep writeSbuf receiveAsked writeScon external either seenOf firstOf choice offered inService taken returned falls counted externals timersAfter timer2After ticksIn stepsOf cycleOf cycles resetAnswer valueIn registerAt readAnswer stored writeAnswer cycleAnswer cyclesFault jumpAnswer entryFault firstBad traceFault traceCycles totalsNext totals overflows working watched busy marks busyCycles quietRuns roundsOf traceTotals traceAnswer flags anyRises risen noted timesAfter pairsOk never firstCycle lookAnswer wakeAnswer offerOf offerAnswer takeOf takeAnswer returnAnswer play run
+unfolding same sameValue sameReply sameReplies shorn withoutRounds rowBy rowFrom card1 card2 card3 card4 baud2 card5 card5counted mode1send card6 card6half card7 card8 card8shift card9 card10 card11 card12 card12line card13 card14 card15 card16 timer2At card17 card17by card17counter card18 card18both card19 card20 card20counter card21 card21again card22 card23 placed rose neverRose timer0Near card24 card25 card26 card26again singles ways card27 timed card28 card29 card29reset card30 bad good card31 card32 card33 card33reload card34 card35 card36 card37 card38 card39 card40 card41 card42 both joined cards failing failingBy table implementedIn implemented registers hiddenFields accepted pinsOf levelsOf zeros resetOf count13 count16 reload8 count8 hold enabled clocked countIn flagged counts0 counts1 countsHigh0 pair0 high0 highOverflow0 pair1 timerFlags timersStep countOnce countTimes baudRate countsOf2 heedsT2EX captures counted2 baudStep copied2 captureStep timer2Step halfAfter ticks1 ticksOf serialTicks sendMove sendTick sendTicks send lineOf startFound receiveStart receiveRolled receiveCounted votesAdded bitOf frameDone receiveBit receiveWork receiveTick receiveTicks receiveShift receive serialStep writeSbuf receiveAsked writeScon external either seenOf firstOf choice offered inService taken returned falls counted externals timersAfter timer2After ticksIn stepsOf cycleOf cycles resetAnswer valueIn registerAt readAnswer stored writeAnswer cycleAnswer cyclesFault jumpAnswer entryFault firstBad traceFault traceCycles totalsNext totals overflows working watched busy marks busyCycles quietRuns rounds traceTotals traceAnswer flags anyRises risen noted timesAfter pairsOk never firstCycle lookAnswer wakeAnswer offerOf offerAnswer takeOf takeAnswer returnAnswer play run
 cards-hold = refl
+
+-- a mark that they do, without their text
+pub data Held : Type 0 where
+  held : Held
+
+marked : failing cards ≡ [] → Held
+marked p = held
+
+pub cards-held : Held
+cards-held = marked cards-hold

@@ -111,7 +111,8 @@ fn lap_of(d: Device) -> Lap
     }
 }
 
-// The reload: half flips with SMOD = 0, a tick adds 1 to the send counter and takes RXD into the last line sample.
+// The reload: a tick with SMOD = 1, and with SMOD = 0 where half is 1; half flips with SMOD = 0. SMOD and half are bits. A tick adds 1 to the
+// send counter and takes RXD into the last line sample.
 fn reloaded(k: Clocking, x: Lap) -> Lap
     requires { ⌜ (k .smod ≤ 1) × Reload.Lapped x ⌝ }
     ensures { λ r. ⌜ (Reload.unwound r ≡ Reload.reloaded k (Reload.unwound x)) × Reload.Lapped r ⌝ }
