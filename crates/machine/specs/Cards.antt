@@ -115,8 +115,8 @@ wakes n k = asked (wake high n) (gives k)
 abbrev wakesNone : ℕ → Asked
 wakesNone n = asked (wake high n) (says 0 none)
 
--- a reply without a fourth number, which only a jump has: its rounds. Cards 37 to 42 give them; computing them in every card takes the
--- checker as long again as all else
+-- a reply without a fourth number, which only a jump has: its rounds. Cards 37 to 42 give them; with them in every card the checker
+-- takes three times as long
 shorn : Value → Value
 shorn (numbers ns) = numbers (first 3 ns)
 shorn none = none
