@@ -869,9 +869,15 @@ joined : List (List Row) → List Row
 joined [] = []
 joined (rs ∷ more) = rs ++ joined more
 
+-- the rows that are looked at before the others: none. A must-fail edit puts the rows of its card here, which the checker then comes to
+-- at once, and not after all the others that hold
+foremost : List Row
+foremost = []
+
 cards : List Row
 cards =
-    joined (
+    foremost
+    ++ joined (
     both card1
     ∷ both card2
     ∷ both card3
@@ -975,14 +981,14 @@ failing = failingBy (λ (r : Row). r .card) (λ (r : Row). r .test (run (r .call
 
 -- no row fails
 cards-hold : failing cards ≡ []
-unfolding same sameValue sameReply sameReplies shorn withoutRounds rowBy rowFrom card1 card2 card3 card4 baud2 card5 card5counted mode1send card6 card6half card7 card8 card8shift card9 card10 card11 card12 card12line card13 card14 card15 card16 timer2At card17 card17by card17counter card18 card18both card19 card20 card20counter card21 card21again card22 card23 placed rose neverRose timer0Near card24 card25 card26 card26again singles ways card27 timed card28 card29 card29reset card30 bad good card31 card32 card33 card33reload card34 card35 card36 card37 card38 card39 card40 card41 card42 both joined cards failing failingBy table implementedIn implemented registers hiddenFields accepted pinsOf levelsOf zeros resetOf count13 count16 reload8 count8 hold enabled clocked countIn flagged counts0 counts1 countsHigh0 pair0 high0 highOverflow0 pair1 timerFlags timersStep countOnce countTimes baudRate countsOf2 heedsT2EX captures counted2 baudStep copied2 captureStep timer2Step halfAfter ticks1 ticksOf serialTicks sendMove sendTick sendTicks send lineOf startFound receiveStart receiveRolled receiveCounted votesAdded bitOf frameDone receiveBit receiveWork receiveTick receiveTicks receiveShift receive serialStep writeSbuf receiveAsked writeScon external either seenOf firstOf choice offered inService taken returned falls counted externals timersAfter timer2After ticksIn stepsOf cycleOf cycles resetAnswer valueIn registerAt readAnswer stored writeAnswer cycleAnswer cyclesFault jumpAnswer entryFault firstBad traceFault traceCycles totalsNext totals overflows working watched busy marks busyCycles quietRuns rounds traceTotals traceAnswer flags anyRises risen noted timesAfter pairsOk never firstCycle lookAnswer wakeAnswer offerOf offerAnswer takeOf takeAnswer returnAnswer play run
+unfolding same sameValue sameReply sameReplies shorn withoutRounds rowBy rowFrom card1 card2 card3 card4 baud2 card5 card5counted mode1send card6 card6half card7 card8 card8shift card9 card10 card11 card12 card12line card13 card14 card15 card16 timer2At card17 card17by card17counter card18 card18both card19 card20 card20counter card21 card21again card22 card23 placed rose neverRose timer0Near card24 card25 card26 card26again singles ways card27 timed card28 card29 card29reset card30 bad good card31 card32 card33 card33reload card34 card35 card36 card37 card38 card39 card40 card41 card42 both joined foremost cards failing failingBy table implementedIn implemented registers hiddenFields accepted pinsOf levelsOf zeros resetOf count13 count16 reload8 count8 hold enabled clocked countIn flagged counts0 counts1 countsHigh0 pair0 high0 highOverflow0 pair1 timerFlags timersStep countOnce countTimes baudRate countsOf2 heedsT2EX captures counted2 baudStep copied2 captureStep timer2Step halfAfter ticks1 ticksOf serialTicks sendMove sendTick sendTicks send lineOf startFound receiveStart receiveRolled receiveCounted votesAdded bitOf frameDone receiveBit receiveWork receiveTick receiveTicks receiveShift receive serialStep writeSbuf receiveAsked writeScon external either seenOf firstOf choice offered inService taken returned falls counted externals timersAfter timer2After ticksIn stepsOf cycleOf cycles resetAnswer valueIn registerAt readAnswer stored writeAnswer cycleAnswer cyclesFault jumpAnswer entryFault firstBad traceFault traceCycles totalsNext totals overflows working watched busy marks busyCycles quietRuns rounds traceTotals traceAnswer flags anyRises risen noted timesAfter pairsOk never firstCycle lookAnswer wakeAnswer offerOf offerAnswer takeOf takeAnswer returnAnswer play run
 cards-hold = refl
 
--- a mark that they do, without their text
+-- a mark that none does, without their text
 pub data Held : Type 0 where
   held : Held
 
-marked : failing cards ≡ [] → Held
+pub marked : {failed : List ℕ} → failed ≡ [] → Held
 marked p = held
 
 pub cards-held : Held

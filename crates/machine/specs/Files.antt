@@ -11,7 +11,7 @@ use Rattle.machine.specs.Times.{pairsOk, never}
 use Rattle.machine.specs.Record.{registers, hiddenFields, accepted, blank, zeros}
 use Rattle.machine.specs.Checkpoint.{bytesOf, numberOf, timesListed, valuesOf, deviceWith, joined, section, registerEntries, numberEntries, timeEntries, layout, written, fileOf, saveFault, saveAnswer, holds, judged, readPart, readParts, finished, loadAnswer}
 use Rattle.machine.specs.Same.{same}
-use Rattle.machine.specs.Cards.{Held, failingBy, cards-held}
+use Rattle.machine.specs.Cards.{Held, marked, failingBy, cards-held}
 
 -- a device in which almost every value is another: 3 is the serial mode, so that position 11 is allowed
 sample : ℕ → Device
@@ -231,7 +231,7 @@ cards10 =
 failing : List Row → List ℕ
 failing = failingBy (λ (r : Row). r .card) (λ (r : Row). same (r .out) (r .says))
 
--- once the cards of the machine hold: where one fails, the files are not computed
+-- once the cards before them hold, the machine's and then these in their parts: where one fails, the rest is not computed
 given : {A : Type 0} → Held → A → A
 given h a = a
 
@@ -242,8 +242,8 @@ files-hold = given cards-held refl
 
 faults-hold : failing (cards3 52 ++ cards5 51 ++ cards5 52 ++ cards7 51 ++ cards8 52) ≡ []
 unfolding cards3 cards5 cards7 cards8 failing failingBy sample registersIn file loaded saves same table implementedIn implemented pairsOk never registers hiddenFields accepted blank zeros bytesOf numberOf timesListed valuesOf deviceWith joined section registerEntries numberEntries timeEntries layout written fileOf saveFault saveAnswer holds judged readPart readParts finished loadAnswer
-faults-hold = given cards-held refl
+faults-hold = given (marked files-hold) refl
 
 values-hold : failing (cards6 52) ≡ []
 unfolding cards6 failing failingBy sample registersIn file loaded saves same table implementedIn implemented pairsOk never registers hiddenFields accepted blank zeros bytesOf numberOf timesListed valuesOf deviceWith joined section registerEntries numberEntries timeEntries layout written fileOf saveFault saveAnswer holds judged readPart readParts finished loadAnswer
-values-hold = given cards-held refl
+values-hold = given (marked faults-hold) refl
