@@ -1,21 +1,22 @@
 // The types of the speed finder, which gives SMOD and TH1 of Timer 1 for a wanted speed (request Four). What it answers is said in specs/.
+#![tactic(auto)]
 
 // SMOD and TH1 of Timer 1 in mode 2, which clocks the serial port.
-#[derive(Drop)]
+#[derive(Clone, Copy)]
 pub struct Pair {
     pub smod: u8,
     pub th1: u8,
 }
 
 // A fraction of whole numbers.
-#[derive(Drop)]
+#[derive(Clone, Copy)]
 pub struct Fraction {
     pub numerator: u64,
     pub denominator: u64,
 }
 
 // The answer: the refusal's number; the pair, with the rate that it achieves in whole bits a second; or that there is none.
-#[derive(Drop)]
+#[derive(Clone, Copy)]
 pub enum SpeedAnswer {
     Refused(u8),
     Found { smod: u8, th1: u8, achieved: u64 },

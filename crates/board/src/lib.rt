@@ -10,14 +10,14 @@ use machine::{Device, Totals};
 
 // The record of both chips.
 #[repr(C)]
-#[derive(Drop)]
+#[derive(Clone, Copy)]
 pub struct Board {
     pub device: Device,
     pub interval: Interval,
 }
 
 // The answer of a cycle: 0, the output line and the outputs of the 82C53, or the refusal's number and zeros; and the board.
-#[derive(Drop)]
+#[derive(Clone, Copy)]
 pub struct BoardCycleAnswer {
     pub code: u8,
     pub line: u8,
@@ -27,7 +27,7 @@ pub struct BoardCycleAnswer {
 
 // The answer of a jump: 0, the outputs of the 82C53, the chip's overflow totals and its rounds, or the refusal's number and zeros; and the
 // board.
-#[derive(Drop)]
+#[derive(Clone, Copy)]
 pub struct BoardJumpAnswer {
     pub code: u8,
     pub outputs: u8,

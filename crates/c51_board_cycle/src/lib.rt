@@ -7,7 +7,7 @@ use board::Board;
 
 // The code of a board's cycle, the output line and the outputs of the 82C53.
 #[repr(C)]
-#[derive(Drop)]
+#[derive(Clone, Copy)]
 pub struct BoardAnswer {
     pub code: u8,
     pub line: u8,

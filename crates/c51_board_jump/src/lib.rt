@@ -8,7 +8,7 @@ use machine::Totals;
 
 // The code of a board's jump, the outputs of the 82C53, the chip's overflow totals, and its rounds.
 #[repr(C)]
-#[derive(Drop)]
+#[derive(Clone, Copy)]
 pub struct BoardJumped {
     pub code: u8,
     pub outputs: u8,

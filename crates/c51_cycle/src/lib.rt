@@ -7,7 +7,7 @@ use machine::Device;
 
 // A cycle's code and the output line as it leaves it.
 #[repr(C)]
-#[derive(Drop)]
+#[derive(Clone, Copy)]
 pub struct LineAnswer {
     pub code: u8,
     pub line: u8,

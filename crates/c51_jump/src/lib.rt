@@ -7,7 +7,7 @@ use machine::{Device, Totals};
 
 // A jump's code, its overflow totals and its rounds.
 #[repr(C)]
-#[derive(Drop)]
+#[derive(Clone, Copy)]
 pub struct Jumped {
     pub code: u8,
     pub totals: Totals,

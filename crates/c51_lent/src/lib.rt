@@ -12,7 +12,7 @@ use machine::{Answer, Device};
 
 // The speed finder's code, 1 where there is a pair (`found` in c51.h), its SMOD and TH1, and the rate that it achieves.
 #[repr(C)]
-#[derive(Drop)]
+#[derive(Clone, Copy)]
 pub struct FoundAnswer {
     pub code: u8,
     pub pair: u8,

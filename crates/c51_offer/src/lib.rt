@@ -7,7 +7,7 @@ use machine::Device;
 
 // An offer's code, 1 where an interrupt is offered, and its vector.
 #[repr(C)]
-#[derive(Drop)]
+#[derive(Clone, Copy)]
 pub struct OfferedAnswer {
     pub code: u8,
     pub offered: u8,

@@ -7,7 +7,7 @@ use machine::Device;
 
 // A read's code and the register.
 #[repr(C)]
-#[derive(Drop)]
+#[derive(Clone, Copy)]
 pub struct ValueAnswer {
     pub code: u8,
     pub value: u8,

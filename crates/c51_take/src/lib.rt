@@ -7,7 +7,7 @@ use machine::Device;
 
 // A take's code and the vector.
 #[repr(C)]
-#[derive(Drop)]
+#[derive(Clone, Copy)]
 pub struct VectorAnswer {
     pub code: u8,
     pub vector: u8,

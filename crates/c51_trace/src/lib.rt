@@ -7,7 +7,7 @@ use machine::{Device, Totals};
 
 // A trace run's code and its overflow totals.
 #[repr(C)]
-#[derive(Drop)]
+#[derive(Clone, Copy)]
 pub struct Traced {
     pub code: u8,
     pub totals: Totals,

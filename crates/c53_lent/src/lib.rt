@@ -9,7 +9,7 @@ use interval::Interval;
 
 // A read's code and the byte.
 #[repr(C)]
-#[derive(Drop)]
+#[derive(Clone, Copy)]
 pub struct ValueAnswer {
     pub code: u8,
     pub value: u8,
@@ -17,7 +17,7 @@ pub struct ValueAnswer {
 
 // The code of a pulse or a jump, and the outputs.
 #[repr(C)]
-#[derive(Drop)]
+#[derive(Clone, Copy)]
 pub struct OutputsAnswer {
     pub code: u8,
     pub outputs: u8,

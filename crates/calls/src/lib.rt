@@ -37,7 +37,7 @@ const TAKE: u64 = 8;
 const WAKE: u64 = 10;
 
 // What a call answers, as the row that is written down; and the device after it.
-#[derive(Drop)]
+#[derive(Clone, Copy)]
 pub struct Shown {
     pub row: [u64; ANSWER_WORDS],
     pub device: Device,

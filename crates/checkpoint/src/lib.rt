@@ -12,7 +12,7 @@ use machine::refusals::{BAD_LAYOUT, BAD_LENGTH, BAD_VALUE, PASSED};
 use values::{PLACES, RECEIVED, SBUF};
 
 // A reading: the code so far, the next byte's place in the file, and the values, 0 where none is read yet.
-#[derive(Drop)]
+#[derive(Clone, Copy)]
 pub struct Reading {
     pub code: u8,
     pub at: usize,

@@ -1,4 +1,6 @@
 // One count of a timer's pair, by its mode: 13 bits, 16 bits, 8 bits with reload, 8 bits.
+#![tactic(auto)]
+
 ghost use Rattle.std.specs.Prelude.{◌≡◌, if◌then◌else◌};
 ghost use Rattle.machine.specs.Counting as Counting;
 ghost use Rattle.machine.specs.Timers as Step;

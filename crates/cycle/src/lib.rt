@@ -107,7 +107,7 @@ fn overflows_of(c: Counted) -> Overflows
 }
 
 // Cycles in a row: the overflows in them, added up, and the device after them.
-#[derive(Drop)]
+#[derive(Clone, Copy)]
 pub struct Run {
     pub totals: Totals,
     pub device: Device,

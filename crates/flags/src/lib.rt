@@ -1,5 +1,7 @@
 // The eight flags, TF0, TF1, IE0, IE1 in TCON, RI, TI in SCON, TF2, EXF2 in T2CON: whether one rises in a cycle, and the times when each
 // last did. Of the registers those with 0 are as the cycle finds them, those with 1 as it leaves them.
+#![tactic(auto)]
+
 ghost use Rattle.std.specs.Prelude.{◌≡◌, ◌<◌};
 ghost use Rattle.machine.specs.Bits.{bit};
 ghost use Rattle.machine.specs.Flags.{flags_of, rose, any_rises};

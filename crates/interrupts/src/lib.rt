@@ -1,4 +1,6 @@
 // The interrupt controller: IE0 and IE1 from their pins, what is seen, the offer, a take and a return.
+#![tactic(auto)]
+
 ghost use Rattle.std.specs.Prelude.{◌≡◌, cond, ℕ, ◌<◌, eqb};
 ghost use Rattle.machine.specs.Bits.{bit, clear_bit};
 ghost use Rattle.machine.specs.Interrupts as Interrupt;

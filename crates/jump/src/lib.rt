@@ -14,7 +14,7 @@ use cycle::Run;
 use laws::least;
 
 // What a round passes: how many cycles it has, and the run after them.
-#[derive(Drop)]
+#[derive(Clone, Copy)]
 pub struct Round {
     pub used: u64,
     pub run: Run,
@@ -46,7 +46,7 @@ pub fn one_round(run: Run, pins: u8, left: u64, room: u64) -> Round
 }
 
 // Cycles in a row by rounds: how many rounds there were, how many cycles are left, and the run so far.
-#[derive(Drop)]
+#[derive(Clone, Copy)]
 pub struct Gone {
     pub rounds: u64,
     pub left: u64,
@@ -83,7 +83,7 @@ fn rounds_to_idle(from: Run, pins: u8, n: u64) -> Gone
 }
 
 // Cycles in a row: how many rounds they took, and the run after them.
-#[derive(Drop)]
+#[derive(Clone, Copy)]
 pub struct Advanced {
     pub rounds: u64,
     pub run: Run,

@@ -1,4 +1,6 @@
 // Laws of bits and fields for any place, of counting for any width, and of sleep: proofs/. Here what the parts share.
+#![tactic(auto)]
+
 ghost use Rattle.std.specs.Prelude.{◌≡◌, cond, ◌<◌, min};
 ghost use Rattle.machine.specs.Power.{powered_down};
 ghost use Rattle.machine.specs.Counting as Counting;

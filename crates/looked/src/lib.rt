@@ -1,4 +1,6 @@
 // What a look ahead and a wake look answer, as numbers for C.
+#![tactic(auto)]
+
 ghost use Rattle.std.specs.Prelude.{◌≡◌};
 ghost use Rattle.looked.specs.Looked.{looked_of};
 
@@ -7,7 +9,7 @@ use machine::LookAnswer;
 // A look's code, 1 where it finds what it looks for, and the cycle in which a flag first rises, or after which an interrupt is first
 // offered.
 #[repr(C)]
-#[derive(Drop)]
+#[derive(Clone, Copy)]
 pub struct LookedAnswer {
     pub code: u8,
     pub found: u8,

@@ -10,7 +10,7 @@ pub const MOST_ENTRIES: usize = 65536;
 
 // Timers 0 and 1: registers and due marks. A due mark, document 01's term, is 1 where the counter's pin fell in the last cycle.
 #[repr(C)]
-#[derive(Drop)]
+#[derive(Clone, Copy)]
 pub struct Timers {
     pub tcon: u8,
     pub tmod: u8,
@@ -24,7 +24,7 @@ pub struct Timers {
 
 // Timer 2: registers and due mark.
 #[repr(C)]
-#[derive(Drop)]
+#[derive(Clone, Copy)]
 pub struct Timer2 {
     pub t2con: u8,
     pub rcap2l: u8,
@@ -36,7 +36,7 @@ pub struct Timer2 {
 
 // Send position, send value and send counter.
 #[repr(C)]
-#[derive(Drop)]
+#[derive(Clone, Copy)]
 pub struct Sender {
     pub position: u8,
     pub value: u16,
@@ -45,7 +45,7 @@ pub struct Sender {
 
 // Receive position, receive value, receive counter, votes and last line sample.
 #[repr(C)]
-#[derive(Drop)]
+#[derive(Clone, Copy)]
 pub struct Receiver {
     pub position: u8,
     pub value: u16,
@@ -56,7 +56,7 @@ pub struct Receiver {
 
 // The serial port. SBUF's value is the received byte.
 #[repr(C)]
-#[derive(Drop)]
+#[derive(Clone, Copy)]
 pub struct Serial {
     pub scon: u8,
     pub send: Sender,
@@ -68,7 +68,7 @@ pub struct Serial {
 // The interrupt controller: registers, the levels in service, and document 01's seen, the flags that the last cycle left, and
 // polled, those that the cycle before it left, and Timer 2's also where an overflow set TF2 in the last.
 #[repr(C)]
-#[derive(Drop)]
+#[derive(Clone, Copy)]
 pub struct Interrupts {
     pub ie: u8,
     pub ip: u8,
@@ -81,7 +81,7 @@ pub struct Interrupts {
 // When each of the eight flags last rose, in the order TF0, TF1, IE0, IE1, RI, TI, TF2, EXF2: 1 where it ever did since reset, and the
 // cycle number after the cycle in which it last did.
 #[repr(C)]
-#[derive(Drop)]
+#[derive(Clone, Copy)]
 pub struct FlagTimes {
     pub ever: [u8; 8],
     pub number: [u64; 8],
@@ -89,7 +89,7 @@ pub struct FlagTimes {
 
 // The device record. The saved levels are those of RXD, INT0, INT1, T0, T1, T2, T2EX.
 #[repr(C)]
-#[derive(Drop)]
+#[derive(Clone, Copy)]
 pub struct Device {
     pub kind: u8,
     pub pcon: u8,
@@ -103,7 +103,7 @@ pub struct Device {
 }
 
 // A timer's register pair after a count, and 1 where it overflowed.
-#[derive(Drop)]
+#[derive(Clone, Copy)]
 pub struct Count {
     pub tl: u8,
     pub th: u8,
@@ -111,7 +111,7 @@ pub struct Count {
 }
 
 // Step 2: Timers 0 and 1, and the overflows of Timer 0 (TL0 in mode 3), of TH0 in mode 3 and of Timer 1.
-#[derive(Drop)]
+#[derive(Clone, Copy)]
 pub struct TimersCounted {
     pub timers: Timers,
     pub overflow0: u8,
@@ -120,14 +120,14 @@ pub struct TimersCounted {
 }
 
 // A 16-bit count and its overflows so far.
-#[derive(Drop)]
+#[derive(Clone, Copy)]
 pub struct Counted16 {
     pub count: u16,
     pub overflows: u8,
 }
 
 // Step 3: Timer 2, its overflows, and 1 where one of them set TF2.
-#[derive(Drop)]
+#[derive(Clone, Copy)]
 pub struct Timer2Counted {
     pub timer2: Timer2,
     pub overflows: u8,
@@ -135,14 +135,14 @@ pub struct Timer2Counted {
 }
 
 // Steps 2 and 3: what the timers count in a cycle.
-#[derive(Drop)]
+#[derive(Clone, Copy)]
 pub struct Counted {
     pub timers: TimersCounted,
     pub timer2: Timer2Counted,
 }
 
 // The overflows of a cycle: of Timer 0 (TL0 in mode 3), of TH0 in mode 3, of Timer 1 and of Timer 2.
-#[derive(Drop)]
+#[derive(Clone, Copy)]
 pub struct Overflows {
     pub timer0: u8,
     pub th0: u8,
@@ -152,7 +152,7 @@ pub struct Overflows {
 
 // The overflow totals of a jump and of a trace run: of Timer 0, TH0 in mode 3 too, of Timer 1 and of Timer 2.
 #[repr(C)]
-#[derive(Drop)]
+#[derive(Clone, Copy)]
 pub struct Totals {
     pub timer0: u64,
     pub timer1: u64,
@@ -160,7 +160,7 @@ pub struct Totals {
 }
 
 // Step 4: the ticks of the sender and of the receiver, and half after them.
-#[derive(Drop)]
+#[derive(Clone, Copy)]
 pub struct Ticks {
     pub send: u8,
     pub receive: u8,
@@ -169,14 +169,14 @@ pub struct Ticks {
 
 // The answer of reset, write and return: 0 or the refusal's number, and the device.
 #[repr(C)]
-#[derive(Drop)]
+#[derive(Clone, Copy)]
 pub struct Answer {
     pub code: u8,
     pub device: Device,
 }
 
 // The answer of a jump: 0, the overflow totals and the rounds, or the refusal's number and zeros; and the device.
-#[derive(Drop)]
+#[derive(Clone, Copy)]
 pub struct JumpAnswer {
     pub code: u8,
     pub totals: Totals,
@@ -185,7 +185,7 @@ pub struct JumpAnswer {
 }
 
 // The answer of a trace run: 0 and the overflow totals, or the refusal's number and zeros; and the device.
-#[derive(Drop)]
+#[derive(Clone, Copy)]
 pub struct RunAnswer {
     pub code: u8,
     pub totals: Totals,
@@ -193,7 +193,7 @@ pub struct RunAnswer {
 }
 
 // The answer of a cycle: 0 and the output line, or the refusal's number and 0; and the device.
-#[derive(Drop)]
+#[derive(Clone, Copy)]
 pub struct CycleAnswer {
     pub code: u8,
     pub line: u8,
@@ -201,7 +201,7 @@ pub struct CycleAnswer {
 }
 
 // The answer of a take: 0 and the vector, or the refusal's number and 0; and the device.
-#[derive(Drop)]
+#[derive(Clone, Copy)]
 pub struct TakeAnswer {
     pub code: u8,
     pub vector: u8,
@@ -209,14 +209,14 @@ pub struct TakeAnswer {
 }
 
 // The answer of a read.
-#[derive(Drop)]
+#[derive(Clone, Copy)]
 pub enum ReadAnswer {
     Refused(u8),
     Value(u8),
 }
 
 // The answer of an offer.
-#[derive(Drop)]
+#[derive(Clone, Copy)]
 pub enum OfferAnswer {
     Refused(u8),
     Vector(u8),
@@ -224,7 +224,7 @@ pub enum OfferAnswer {
 }
 
 // The answer of a look ahead and of a wake look.
-#[derive(Drop)]
+#[derive(Clone, Copy)]
 pub enum LookAnswer {
     Refused(u8),
     At(u64),
@@ -232,7 +232,7 @@ pub enum LookAnswer {
 }
 
 // A part of a checkpoint: a byte that can only be this one, a count or an address; or the value of a place, in so many bytes.
-#[derive(Drop)]
+#[derive(Clone, Copy)]
 pub enum Part {
     Mark(u8),
     Value { place: usize, width: usize },

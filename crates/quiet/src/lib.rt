@@ -138,7 +138,7 @@ fn room2(t: Timer2) -> u64
 // What lies ahead of a device: whether it is settled, and the room, the length of the run of cycles from it on in which
 // nothing happens but counting, at most a jump's. In power-down nothing happens in any jump; a device is not called settled there, since
 // nothing counts.
-#[derive(Drop)]
+#[derive(Clone, Copy)]
 pub struct Outlook {
     pub settled: bool,
     pub room: u64,

@@ -61,7 +61,7 @@ const TABLE: [[u8; 3]; 16] = [
 ];
 
 // A register of the chip.
-#[derive(Drop)]
+#[derive(Clone, Copy)]
 pub enum Register {
     Pcon,
     Tcon,
@@ -82,7 +82,7 @@ pub enum Register {
 }
 
 // What stands at an address: a register with the implemented bits that the kind has there, or the refusal.
-#[derive(Drop)]
+#[derive(Clone, Copy)]
 pub enum Place {
     At(Register, u8),
     Refused(u8),

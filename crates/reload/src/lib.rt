@@ -42,7 +42,7 @@ pub fn idles(d: Device, l: u8, settled: bool) -> bool
 }
 
 // What a reload goes by: SMOD, RXD, and whether Timer 1 clocks the sender and the receiver.
-#[derive(Drop)]
+#[derive(Clone, Copy)]
 pub struct Clocking {
     pub smod: u8,
     pub rxd: u8,
@@ -51,7 +51,7 @@ pub struct Clocking {
 }
 
 // What it works on: the last line sample, the send counter and half, and of TL1 the counts before it reloads, now and in a whole lap.
-#[derive(Drop)]
+#[derive(Clone, Copy)]
 pub struct Lap {
     pub sample: u8,
     pub counter: u8,
@@ -141,7 +141,7 @@ fn put_lap(n: u64, x: Lap, d: Device) -> Device
 }
 
 // A round passes so many cycles.
-#[derive(Drop)]
+#[derive(Clone, Copy)]
 pub struct LapRound {
     pub used: u64,
     pub lap: Lap,
@@ -174,7 +174,7 @@ fn idle_round(k: Clocking, x: Lap, left: u64) -> LapRound
 }
 
 // Cycles in which Timer 1's reload is all that happens: how many rounds they took, and the device after them.
-#[derive(Drop)]
+#[derive(Clone, Copy)]
 pub struct Idled {
     pub rounds: u64,
     pub device: Device,

@@ -1,10 +1,12 @@
 // Counting one timer over a stretch: a counter of up to 16 bits after m counts, by division. Where no overflow reloads it, the reload
 // value is 0.
+#![tactic(auto)]
+
 ghost use Rattle.std.specs.Prelude.{◌≡◌, ◌≤◌, ◌<◌, ◌^◌};
 ghost use Rattle.stretch.specs.Stretch.{Counter, Lap, lapped};
 
 // The count after them, and the overflows among them.
-#[derive(Drop)]
+#[derive(Clone, Copy)]
 pub struct Lapped {
     pub count: u32,
     pub overflows: u64,

@@ -1,4 +1,6 @@
 // Step 4 of a machine cycle: the serial mode, and the ticks of the serial port.
+#![tactic(auto)]
+
 ghost use Rattle.std.specs.Prelude.{◌≡◌};
 ghost use Rattle.machine.specs.Record.{serial_mode};
 ghost use Rattle.machine.specs.Serial as S;

@@ -1,4 +1,6 @@
 // Timer 2: step 3 of a cycle. Several counts in a cycle are made overflow by overflow, not one by one.
+#![tactic(auto)]
+
 ghost use Rattle.std.specs.Prelude.{◌≡◌};
 ghost use Rattle.machine.specs.Timer2 as Two;
 

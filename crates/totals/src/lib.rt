@@ -1,4 +1,6 @@
 // Overflow totals: those of one cycle, timer by timer, none, and the sum of two.
+#![tactic(auto)]
+
 ghost use Rattle.std.specs.Prelude.{◌≡◌};
 ghost use Rattle.machine.specs.Totals as Machine;
 ghost use Rattle.totals.specs.Fit.{Fit};

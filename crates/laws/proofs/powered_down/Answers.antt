@@ -4,11 +4,7 @@ use Prim.Native.Nat.{ℕ}
 use lib.Dec.{eqb}
 use Rattle.machine.specs.Registers.{PD}
 use Rattle.laws.proofs.Bits.{and_one}
-use Rattle.laws.proofs.powered_down.Statement.{statement}
-use Rattle.laws.proofs.powered_down.Tie as tie
+use Rattle.laws.proofs.powered_down.Goals as goal
 
-returns : tie.Need-returns
+pub returns : goal.returns
 returns c = ap (λ (n : ℕ). eqb n 1) (and_one c.args.pcon PD)
-
-pub powered_down_spec : {M : Type 1} → statement M
-powered_down_spec = tie.close (tie.spec returns)
