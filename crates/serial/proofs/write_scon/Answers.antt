@@ -3,14 +3,12 @@ use mathlib.Core.Path.{◌≡◌, refl, ap, sym, ◌∙◌}
 use mathlib.Core.Bool.{Bool, true, false, cond}
 use Prim.Native.Nat.{ℕ}
 use lib.Dec.{eqb}
-use borrow.Author.Rules.{rules}
 use Rattle.machine.specs.declared.Serial.{Serial}
 use Rattle.machine.specs.Record.{serial_mode}
 use Rattle.machine.specs.Serial.{with_send, with_receive, send_at, receive_at, receive_asked, write_scon}
 use Rattle.laws.proofs.Bits.{low1}
 use Rattle.receiver.proofs.Receiving.{asked}
-use Rattle.serial.proofs.write_scon.Statement.{statement}
-use Rattle.serial.proofs.write_scon.Tie as tie
+use Rattle.serial.proofs.write_scon.Goals as goal
 
 -- SCON v, and the two positions
 written : ℕ → ℕ → ℕ → Serial → Serial
@@ -38,19 +36,15 @@ picks v s p q r e f g =
     (ap receive_asked (by_mode (eqb (serial_mode v) (serial_mode s.scon)) v s ∙ λ i. written v (sym e i) (sym f i) s)
     ∙ by_asked (asked v q) (written v p q s))
 
-returns : tie.Need-returns
+pub returns : goal.returns
 unfolding written
 returns c =
-    let d = c.before.before in
-    let e = d.before in
-    let b = e.before in
-    let m = b.before in
-    let a = m.before.before.args in
-    picks a.v a.s b.picked.result e.picked2.result d.picked3.result
-    (simp (m.mode-of2.ensures, m.before.Mode-of.ensures) at b.picked.ensures)
-    (simp (m.mode-of2.ensures, m.before.Mode-of.ensures) at e.picked2.ensures)
-    (simp (m.before.Mode-of.ensures, low1) at d.picked3.ensures)
-
-pub write_scon_spec : {M : Type 1} → statement M
-write_scon_spec =
-    tie.close (tie.spec (search rules) (search rules) (search rules) (search rules) (search rules) returns)
+    let d = c in
+    let e = d in
+    let b = e in
+    let m = b in
+    let a = m.args in
+    picks a.v a.s b.picked-sending.result e.picked-receiving.result d.picked-position.result
+    (simp (m.mode_of.ensures, m.mode_of-mode.ensures) at b.picked-sending.ensures)
+    (simp (m.mode_of.ensures, m.mode_of-mode.ensures) at e.picked-receiving.ensures)
+    (simp (m.mode_of-mode.ensures, low1) at d.picked-position.ensures)
