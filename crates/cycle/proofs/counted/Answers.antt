@@ -8,4 +8,4 @@ unfolding counted
 returns c = simp (c.timer2_step-u.ensures, c.falls.ensures, c.timers_step-t.ensures)
 
 pub falls-requires : goal.falls-requires
-falls-requires c = (search rules, c.requires)
+falls-requires c = record { pin_bound = search rules; saved_value = c.requires }

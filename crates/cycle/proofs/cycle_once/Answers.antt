@@ -1,13 +1,11 @@
 -- `cycle_once` is the machine's steps of a cycle, and adds its overflows: each step by its contract, its ranges from the record check.
-use Rattle.std.proofs.Common.{◌≡◌, ℕ, sym, ap, ◌∙◌, arith, rules}
-use borrow.Author.Tests.{not-true}
-use Rattle.machine.specs.declared.Timers.{Timers}
-use Rattle.machine.specs.declared.Timer2.{Timer2}
-use Rattle.machine.specs.declared.Serial.{Serial}
-use Rattle.machine.specs.declared.FlagTimes.{FlagTimes}
+use Rattle.std.proofs.Common.{◌≡◌, ℕ, sym, ap, ◌∙◌, arith}
 use Rattle.machine.specs.declared.Device.{Device}
+use Rattle.machine.specs.declared.Totals.{Totals}
+use Rattle.machine.specs.declared.Overflows.{Overflows}
+use Rattle.machine.specs.declared.Counted.{Counted}
 use Rattle.machine.specs.Flags.{flags, any_rises}
-use Rattle.machine.specs.Cycle.{counted, overflows_of, steps}
+use Rattle.machine.specs.Cycle.{counted, overflows_of}
 use Rattle.machine.specs.Totals.{added, by_timer}
 use Rattle.laws.proofs.Flags.{times_stay}
 use Rattle.laws.proofs.Bits.{bits, and_one}
@@ -15,7 +13,7 @@ use Rattle.record.proofs.Accepted.{ranges-of}
 use Rattle.totals.proofs.Sums.{low_fits}
 use Rattle.cycle.proofs.Keeps.{ticks_ok}
 use Rattle.cycle.proofs.Totals.{counted-within}
-use Rattle.cycle.proofs.Steps.{with_all, times_after_lem, steps-are}
+use Rattle.cycle.proofs.Steps.{steps-are}
 use Rattle.cycle.proofs.cycle_once.Goals as goal
 
 pub counted-c-requires : goal.counted-c-requires
@@ -45,65 +43,28 @@ pub timer2_after-u-requires : goal.timer2_after-u-requires
 timer2_after-u-requires c = let a = c in
     (ranges-of a.args.run.device a.requires.0).levels
 
--- the steps up to the cycle number: whatever times are put beside them, if they are those after the cycle, the whole is
-module _ (n : goal.After-wrapping_add_u64-number) where
-  abbrev u : goal.After-timer2_after-u
-  u = n
-
-  abbrev sum : goal.After-added-sum
-  sum = u
-
-  abbrev count : goal.After-counted-c
-  count = sum
-
-  abbrev device : Device
-  device = count.args.run.device
-
-  abbrev pins : ℕ
-  pins = count.args.pins
-
-  abbrev serial : Serial
-  serial = u.serial_step-s.result
-
-  abbrev timers : Timers
-  timers = u.timers_after-t.result
-
-  abbrev timer2 : Timer2
-  timer2 = u.timer2_after-u.result
-
-  abbrev left : FlagTimes → Device
-  left =
-      with_all device timers timer2 serial n.seen_of-seen.result n.flagged-polled.result
-      n.levels_of-now.result n.wrapping_add_u64-number.result
-
-  laps : sum.added-sum.result ≡ added count.args.run.totals (by_timer (overflows_of (counted device pins)))
-  laps =
-      sum.added-sum.ensures
-      ∙ ap (added count.args.run.totals)
-      (sum.by_timer.ensures ∙ ap by_timer (sum.overflows_of.ensures ∙ ap overflows_of count.counted-c.ensures))
-
-  made : {times : FlagTimes} → times ≡ times_after_lem device n.wrapping_add_u64-number.result timers.tcon serial.scon timer2.t2con
-      → left times ≡ steps device pins
-  made e =
-      let l = n in
-      let g = l in
-      let p = g in
-      let t = u in
-      let s = t in
-      steps-are device pins count.counted-c.ensures s.ticks_in-k.ensures (simp bits)
-      s.serial_step-s.ensures t.timers_after-t.ensures u.timer2_after-u.ensures p.flagged-polled.ensures
-      g.seen_of-seen.ensures l.levels_of-now.ensures n.wrapping_add_u64-number.ensures.value e
+-- the sum is of the overflows that were counted
+laps : (r : Totals) {sum by : Totals} {o : Overflows} {c : Counted} (d : Device) (pins : ℕ)
+    → c ≡ counted d pins → o ≡ overflows_of c → by ≡ by_timer o → sum ≡ added r by → sum ≡ added r (by_timer (overflows_of (counted d pins)))
+laps r d pins e₁ e₂ e₃ e₄ = e₄ ∙ ap (added r) (e₃ ∙ ap by_timer (e₂ ∙ ap overflows_of e₁))
 
 -- where no flag rises, the times stay
 pub returns-then-not-any_rises : goal.returns-then-not-any_rises
 unfolding flags any_rises
-returns-then-not-any_rises c =
-    let r = c in
-    let n = r in
-    (laps n, made n (sym (times_stay _ _ _ (sym r.any_rises.ensures ∙ c.if-not-any_rises.true))))
+returns-then-not-any_rises c = (
+  laps c.args.run.totals c.args.run.device c.args.pins c.counted-c.ensures c.overflows_of.ensures c.by_timer.ensures c.added-sum.ensures,
+  steps-are c.args.run.device c.args.pins c.counted-c.ensures c.ticks_in-k.ensures (simp bits) c.serial_step-s.ensures
+      c.timers_after-t.ensures c.timer2_after-u.ensures c.flagged-polled.ensures c.seen_of-seen.ensures c.levels_of-now.ensures
+      c.wrapping_add_u64-number.ensures.value
+      (sym (times_stay _ _ _ (sym c.any_rises.ensures ∙ c.if-not-any_rises.true))),
+)
 
 pub returns : goal.returns
 unfolding flags
-returns c =
-    let n = c in
-    (laps n, made n c.times_after-e.ensures)
+returns c = (
+  laps c.args.run.totals c.args.run.device c.args.pins c.counted-c.ensures c.overflows_of.ensures c.by_timer.ensures c.added-sum.ensures,
+  steps-are c.args.run.device c.args.pins c.counted-c.ensures c.ticks_in-k.ensures (simp bits) c.serial_step-s.ensures
+      c.timers_after-t.ensures c.timer2_after-u.ensures c.flagged-polled.ensures c.seen_of-seen.ensures c.levels_of-now.ensures
+      c.wrapping_add_u64-number.ensures.value
+      c.times_after-e.ensures,
+)

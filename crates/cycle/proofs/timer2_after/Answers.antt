@@ -8,4 +8,4 @@ unfolding timer2_after
 returns c = cc
 
 pub falls-requires : goal.falls-requires
-falls-requires c = (search rules, c.requires)
+falls-requires c = record { pin_bound = search rules; saved_value = c.requires }

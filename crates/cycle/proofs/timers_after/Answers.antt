@@ -11,13 +11,13 @@ returns c =
     simp (c.falls-2.ensures, c.falls.ensures, c.external-with_both.ensures, b.external-with_ie0.ensures, b.falls-fell1.ensures, b.falls-fell0.ensures, bits)
 
 pub falls-fell0-requires : goal.falls-fell0-requires
-falls-fell0-requires c = (search rules, c.requires)
+falls-fell0-requires c = record { pin_bound = search rules; saved_value = c.requires }
 
 pub falls-fell1-requires : goal.falls-fell1-requires
-falls-fell1-requires c = (search rules, c.requires)
+falls-fell1-requires c = record { pin_bound = search rules; saved_value = c.requires }
 
 pub falls-requires : goal.falls-requires
-falls-requires c = (search rules, c.requires)
+falls-requires c = record { pin_bound = search rules; saved_value = c.requires }
 
 pub falls-requires-2 : goal.falls-requires-2
-falls-requires-2 c = (search rules, c.requires)
+falls-requires-2 c = record { pin_bound = search rules; saved_value = c.requires }
