@@ -19,8 +19,7 @@ loop-left-init c = (refl, kept c.args.s c.requires.serial_ok)
 
 pub receive_tick-t-requires : goal.receive_tick-t-requires
 receive_tick-t-requires c =
-    let k = c.loop-left.invariant.1 in
-    (search rules, (omega (arith, k.receive.position, last_most (serial_mode c.args.s.scon)), k.receive.votes))
+    let k = c.loop-left.invariant.1 in record { rxd_bound = search rules; position_bound = omega (arith, k.receive.position, last_most (serial_mode c.args.s.scon)); votes_bound = k.receive.votes }
 
 pub overflow_sub-left : goal.overflow_sub-left
 overflow_sub-left c = omega arith

@@ -1,8 +1,7 @@
-use Rattle.std.proofs.Common.{◌≡◌, ℕ, zero, suc, ◌-◌, ◌<◌, sym, refl, ap, ◌∙◌, subst, arith, rules}
-use Rattle.machine.specs.declared.Serial.{Serial}
+use Rattle.std.proofs.Common.{◌≡◌}
 use Rattle.machine.specs.Record.{serial_mode}
-use Rattle.machine.specs.Serial.{receive_tick, receive_ticks}
-use Rattle.receiver.proofs.Ranges.{Kept, kept, last_most, receive_tick_kept}
+use Rattle.machine.specs.Serial.{receive_ticks}
+use Rattle.receiver.proofs.Ranges.{Kept}
 use Rattle.receiver.proofs.receive_each.Given as goal
 
 abbrev pub invariant-loop-left : goal.invariant-loop-left

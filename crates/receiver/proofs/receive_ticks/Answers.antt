@@ -1,5 +1,5 @@
 -- `receiver::receive_ticks` is receiveTicks: at rest by the law of Quiet, otherwise tick by tick.
-use Rattle.std.proofs.Common.{ℕ, not, eqb, sym, ap, ◌∙◌, rules, eqb-true}
+use Rattle.std.proofs.Common.{ℕ, not, eqb, sym, ap, ◌∙◌, eqb-true}
 use borrow.Author.Tests.{not-true}
 use Rattle.machine.proofs.Choices.{and_left, and_right}
 use Rattle.receiver.proofs.Quiet.{sampled, rest_receive_ticks}
