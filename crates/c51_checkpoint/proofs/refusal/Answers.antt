@@ -8,12 +8,8 @@ returns-then-not-accepts c = save-bad _ _ (no c.accepts.ensures c.if-not-accepts
 
 pub returns-then-size-length : goal.returns-then-size-length
 returns-then-size-length c =
-    let n = c in
-    let o = n in
-    save-other _ _ (yes o.accepts.ensures o.if-not-accepts.false) (rw n.length.ensures at c.if-size-length.true)
+    save-other _ _ (yes c.accepts.ensures c.if-not-accepts.false) (rw c.length.ensures at c.if-size-length.true)
 
 pub returns : goal.returns
 returns c =
-    let n = c in
-    let o = n in
-    save-whole _ _ (yes o.accepts.ensures o.if-not-accepts.false) (rw n.length.ensures at c.if-size-length.false)
+    save-whole _ _ (yes c.accepts.ensures c.if-not-accepts.false) (rw c.length.ensures at c.if-size-length.false)
