@@ -866,7 +866,7 @@ joined (rs ∷ more) = rs ++ joined more
 
 -- the rows that are looked at before the others: none. A must-fail edit puts the rows of its card here, which the checker then comes to
 -- at once, and not after all the others that hold
-foremost : List Row
+pub foremost : List Row
 foremost = []
 
 pub cards : List Row
