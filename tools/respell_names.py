@@ -49,6 +49,8 @@ def declared(path):
     """The names that a file declares, but for the goals of a function's proof."""
     names = set()
     inside = False
+    if path.endswith(("/Answers.antt", "/Invariants.antt")) and path.count("/proofs/") and not path.split("/proofs/")[1].count("/") == 0:
+        return names
     for line in open(path, encoding="utf-8"):
         if line.strip().startswith("--") or not line.strip():
             continue
@@ -70,6 +72,9 @@ def declared(path):
             names.add(member.group(1))
         elif not line.startswith(" "):
             inside = False
+        nested = re.match(r"\s+(?:pub |abbrev |unfoldable )*([a-z][\w'-]*)(?: \{[^{}]*\}| \([^()]*\))* :(?: |$)", line)
+        if nested and not line.strip().startswith("let "):
+            names.add(nested.group(1))
     return names
 
 
@@ -89,6 +94,7 @@ def turned(text, own, crates, path=""):
     """The text with the own names in snake case; of a comment the code spans alone."""
     kept = imported(text, crates)
     walk = path.endswith("Proof.antt")
+    answers = path.endswith(("/Answers.antt", "/Invariants.antt")) and path.split("/proofs/")[1].count("/") > 0
 
     def part(text):
         def one(match):
@@ -96,6 +102,8 @@ def turned(text, own, crates, path=""):
             if word not in own or word in kept:
                 return word
             if match.start() and text[match.start() - 1] == ".":
+                if answers:
+                    return word
                 return snake(word, {} if walk else FIELDS)
             return snake(word, INSTEAD if walk else {**INSTEAD, **FIELDS})
 
@@ -162,7 +170,7 @@ def main():
         new = turned_rt(text, own, crates)
         if new != text:
             open(path, "w", encoding="utf-8").write(new)
-    for path in glob.glob(os.path.join(top, "crates/*/must-fail/*.edit")):
+    for path in sorted(glob.glob(os.path.join(top, "crates/*/must-fail/*.edit"))):
         text = open(path, encoding="utf-8").read()
         new = "\n".join(turned(line, own, crates) if re.match(r"(old|new): ", line) else line for line in text.split("\n"))
         if new != text:

@@ -6,6 +6,7 @@ use mathlib.Core.List.{List}
 use Prim.Native.Nat.{ℕ}
 use base.Fml.{Lft}
 use denote.Ref.{Bor}
+use denote.MutBor.{MutBor}
 use lib.ListN.{length}
 use Rattle.machine.specs.declared.Device.{Device}
 use Rattle.machine.specs.declared.Answer.{Answer}
@@ -20,7 +21,7 @@ use Rattle.c51_checkpoint.proofs.save.Reads as save-reads
 use Rattle.c51_checkpoint.proofs.load.Reads as load-reads
 
 -- a save that passes, and a load of what it wrote
-pub saved_loaded : (κ ι : Lft) (d : Device) (before after file : Bor (List ℕ)) (code : ℕ) (a : Answer) → Sized d
+pub saved_loaded : (κ ι : Lft) (d : Device) (before after : MutBor (List ℕ)) (file : Bor (List ℕ)) (code : ℕ) (a : Answer) → Sized d
     → save-reads.Learnt (κ, tt) (d, (before, tt)) code (d, (after, tt)) → code ≡ 0 → file.now ≡ after.now
     → load-reads.Learnt (ι, tt) (file, tt) a (file, tt) → a ≡ passed d
 saved_loaded κ ι d before after file code a sized s z e l =
@@ -29,7 +30,7 @@ saved_loaded κ ι d before after file code a sized s z e l =
     l ∙ (ap load_answer (e ∙ (s.1 ∙ saved_file d before.now fault)) ∙ moves.back d sized ok)
 
 -- a load that passes, and a save of its device into a buffer of the file's length
-pub loaded_saved : (κ ι : Lft) (file before after : Bor (List ℕ)) (code : ℕ) (a : Answer) → Bytes file.now
+pub loaded_saved : (κ ι : Lft) (file : Bor (List ℕ)) (before after : MutBor (List ℕ)) (code : ℕ) (a : Answer) → Bytes file.now
     → load-reads.Learnt (ι, tt) (file, tt) a (file, tt) → a.code ≡ 0 → length before.now ≡ length file.now
     → save-reads.Learnt (κ, tt) (a.device, (before, tt)) code (a.device, (after, tt))
     → (code ≡ 0) × (after.now ≡ file.now)

@@ -1,6 +1,8 @@
 // The public calls that move a device to another computer: a save writes its checkpoint into a lent buffer, a load makes the device of a
 // lent file. Each answers what the plain machine answers, on every record, buffer and file: its refusals in their order, and then the
 // call. Nothing else is exported.
+#![tactic(auto)]
+
 ghost use Rattle.std.specs.Prelude.{◌≡◌};
 ghost use Rattle.machine.specs.Checkpoint as Machine;
 

@@ -17,48 +17,36 @@ returns-then-not-accepts c = rw (no c.accepts.ensures c.if-not-accepts.true) c.r
 pub returns-then-not-pins_ok : goal.returns-then-not-pins_ok
 unfolding cycle_answer
 returns-then-not-pins_ok c =
-    let p = c in
-    rw (yes p.accepts.ensures p.if-not-accepts.false, no p.pins_ok.ensures c.if-not-pins_ok.true) c.refuse_cycle-then-not-pins_ok.ensures
+    rw (yes c.accepts.ensures c.if-not-accepts.false, no c.pins_ok.ensures c.if-not-pins_ok.true) c.refuse_cycle-then-not-pins_ok.ensures
 
 -- in power-down
 pub passed_cycle-requires : goal.passed_cycle-requires
 passed_cycle-requires c =
-    let p = c in
-    sends_within _ (yes p.accepts.ensures p.if-not-accepts.false)
+    sends_within _ (yes c.accepts.ensures c.if-not-accepts.false)
 
 pub returns-then-powered_down : goal.returns-then-powered_down
 unfolding cycle_answer
 returns-then-powered_down c =
-    let w = c in
-    let p = w in
-    let x = p.args in
-    let down = cycle-down x.d (sym w.powered_down.ensures ∙ c.if-powered_down.true) x.pins in
-    rw (yes p.accepts.ensures p.if-not-accepts.false, yes p.pins_ok.ensures w.if-not-pins_ok.false, down) c.passed_cycle.ensures
+    let x = c.args in
+    let down = cycle-down x.d (sym c.powered_down.ensures ∙ c.if-powered_down.true) x.pins in
+    rw (yes c.accepts.ensures c.if-not-accepts.false, yes c.pins_ok.ensures c.if-not-pins_ok.false, down) c.passed_cycle.ensures
 
 -- out of it
 pub cycle_once-r-requires : goal.cycle_once-r-requires
 cycle_once-r-requires c =
-    let p = c in
-    (yes p.accepts.ensures p.if-not-accepts.false, none_low c.none.ensures)
+    (yes c.accepts.ensures c.if-not-accepts.false, none_low c.none.ensures)
 
 pub passed_cycle-requires-2 : goal.passed_cycle-requires-2
 passed_cycle-requires-2 c =
-    let l = c in
-    let w = l in
-    let p = w in
-    let x = p.args in
-    let ok = yes p.accepts.ensures p.if-not-accepts.false in
-    let up = sym w.powered_down.ensures ∙ l.if-powered_down.false in
-    rw (cycle-reaches x.pins x.d up l.pins_of.ensures c.cycle_once-r.ensures.1) (sends_within (cycle_of x.pins x.d) (cycle_accepted x.pins x.d ok))
+    let x = c.args in
+    let ok = yes c.accepts.ensures c.if-not-accepts.false in
+    let up = sym c.powered_down.ensures ∙ c.if-powered_down.false in
+    rw (cycle-reaches x.pins x.d up c.pins_of.ensures c.cycle_once-r.ensures.1) (sends_within (cycle_of x.pins x.d) (cycle_accepted x.pins x.d ok))
 
 pub returns : goal.returns
 unfolding cycle_answer
 returns c =
-    let o = c in
-    let l = o in
-    let w = l in
-    let p = w in
-    let x = p.args in
-    let up = sym w.powered_down.ensures ∙ l.if-powered_down.false in
-    let reaches = cycle-reaches x.pins x.d up l.pins_of.ensures o.cycle_once-r.ensures.1 in
-    rw (yes p.accepts.ensures p.if-not-accepts.false, yes p.pins_ok.ensures w.if-not-pins_ok.false, ← reaches) c.passed_cycle-2.ensures
+    let x = c.args in
+    let up = sym c.powered_down.ensures ∙ c.if-powered_down.false in
+    let reaches = cycle-reaches x.pins x.d up c.pins_of.ensures c.cycle_once-r.ensures.1 in
+    rw (yes c.accepts.ensures c.if-not-accepts.false, yes c.pins_ok.ensures c.if-not-pins_ok.false, ← reaches) c.passed_cycle-2.ensures
