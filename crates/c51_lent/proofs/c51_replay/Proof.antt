@@ -19,7 +19,7 @@ use Rattle.lists.specs.contracts.replay as replay
 use Rattle.lists.proofs.replay.Symbol as replay-def
 use Rattle.lists.proofs.replay.Symbol.{name as #lists·replay}
 use Rattle.lists.proofs.replay.Met as replay-thm
-use Rattle.lent.proofs.Locals.{in-snd, first_cell}
+use Rattle.lent.proofs.Locals.{in_snd, first_cell}
 use Rattle.lent.proofs.Lent.{value, itself, no_result, read_slice, altered_slice, Passed, Others, values, vals, Way, asks_nothing, exported}
 use Rattle.lent.proofs.Structs.{device}
 use Rattle.c51_lent.specs.contracts.c51_replay.Key.{name as #c51-lent·c51-replay}
@@ -49,14 +49,14 @@ lent_on = record {
   makes = λ 𝓛 C Λ κs a typed e₀ e₁ s rest q Γ. step (λ z.
       move ! (1 ∷ []) $ split ! $ split ! $ move ! (2 ∷ []) $ split ! $ split ! $
       -- [room for _8; its end; true; room for _7; its end; the parameters; …]
-      assigns ! (addr ! (from ! (fld ! refl (hop ! (look_in ! 5 (sub ! 0 refl (in-snd ! (in-snd ! (first_cell !))))) (stop !))))) (from ! (stop !)) (init ! 3 refl (tt, tt)) $
-      assigns ! (agg ! (and_then ! (load ! (from ! (stop !)) (look ! 3 refl)) (and_then ! (load ! (from ! (fld ! refl (stop !))) (look_in ! 5 (sub ! 1 refl (in-snd ! (in-snd ! (first_cell !)))))) (no_more !)))) (from ! (stop !)) (init ! 0 refl typed.1.1.0) $
+      assigns ! (addr ! (from ! (fld ! refl (hop ! (look_in ! 5 (sub ! 0 refl (in_snd ! (in_snd ! (first_cell !))))) (stop !))))) (from ! (stop !)) (init ! 3 refl (tt, tt)) $
+      assigns ! (agg ! (and_then ! (load ! (from ! (stop !)) (look ! 3 refl)) (and_then ! (load ! (from ! (fld ! refl (stop !))) (look_in ! 5 (sub ! 1 refl (in_snd ! (in_snd ! (first_cell !)))))) (no_more !)))) (from ! (stop !)) (init ! 0 refl typed.1.1.0) $
       join ! $ join ! $ move ! (1 ∷ 2 ∷ []) $ join ! $ join ! $ move ! (1 ∷ []) $ z);
   given = λ κs a. vals κs params a;
   reads = λ 𝓛 κs a typed e₀ e₁ s X Γ.
       and_then ! (load ! (from ! (stop !)) (look_in ! 1 (first_cell !)))
-      (and_then ! (load ! (from ! (stop !)) (look_in ! 1 (in-snd ! (first_cell !))))
-      (and_then ! (load ! (from ! (stop !)) (look_in ! 2 (in-snd ! (first_cell !)))) (no_more !)));
+      (and_then ! (load ! (from ! (stop !)) (look_in ! 1 (in_snd ! (first_cell !))))
+      (and_then ! (load ! (from ! (stop !)) (look_in ! 2 (in_snd ! (first_cell !)))) (no_more !)));
 }
 
 pub c51_replay_spec : {M : Type 1} → stated.statement M
