@@ -1,5 +1,7 @@
 // The board that has both chips: a cycle of the chip with a pulse of the 82C53, and n of both at once. Both are public calls; each
 // judges the chips by their own public calls, and the lower number applies.
+#![tactic(auto)]
+
 ghost use Rattle.std.specs.Prelude.{◌≡◌};
 ghost use Rattle.board.specs.Board as Plain;
 ghost use Rattle.board.specs.Joined as Joined;

@@ -89,13 +89,13 @@ call_over (Crosses.trace {es = es}) d h =
     ap (λ (a : RunAnswer). a.device) (entries_passed es d h) ∙ sym (over_entries es d)
 
 -- and so does a list of them
-list_over : {cs : List Call} {d last : Device} {rs : List Reply} → Each Crosses cs → Each Passed rs → Chained cs d rs last
+list_over : {cs : List Call} {d last : Device} {rs : List Reply} → Chained cs d rs last → Each Crosses cs → Each Passed rs
     → last ≡ over (pins_of_calls cs) d
 unfolding over pins_of_calls Each
-list_over x p nothing = refl
-list_over (x, xs) (p, ps) (then {c = c} {cs = cs} {d = d} k r) =
+list_over nothing x p = refl
+list_over (then {c = c} {cs = cs} {d = d} k r) (x, xs) (p, ps) =
     let here = kept_played k in
-    list_over xs ps r
+    list_over r xs ps
     ∙ (ap (λ (q : _). over (pins_of_calls cs) q.device) here
     ∙ (ap (over (pins_of_calls cs)) (call_over x d (sym (ap (λ (q : _). q.reply.code) here) ∙ p))
     ∙ sym (over_append (pins_of_call c) (pins_of_calls cs) d)))
@@ -136,15 +136,15 @@ crosses Counts.jump = Crosses.jump
 crosses Counts.trace = Crosses.trace
 
 -- and so does a list of them
-list_laps : {cs : List Call} {d last : Device} {rs : List Reply} → Each Counts cs → Each Passed rs → Chained cs d rs last
+list_laps : {cs : List Call} {d last : Device} {rs : List Reply} → Chained cs d rs last → Each Counts cs → Each Passed rs
     → summed rs ≡ overflows_over (pins_of_calls cs) d
 unfolding overflows_over pins_of_calls summed Each
-list_laps x p nothing = refl
-list_laps (x, xs) (p, ps) (then {c = c} {cs = cs} {d = d} k r) =
+list_laps nothing x p = refl
+list_laps (then {c = c} {cs = cs} {d = d} k r) (x, xs) (p, ps) =
     let here = kept_played k in
     let passed = sym (ap (λ (q : Played). q.reply.code) here) ∙ p in
     (λ i. added ((ap (λ (q : Played). totals_in q.reply) here ∙ call_laps x d passed) i)
-    ((list_laps xs ps r
+    ((list_laps r xs ps
     ∙ (ap (λ (q : Played). overflows_over (pins_of_calls cs) q.device) here
     ∙ ap (overflows_over (pins_of_calls cs)) (call_over (crosses x) d passed))) i))
     ∙ sym (laps_append (pins_of_call c) (pins_of_calls cs) d)
@@ -153,7 +153,7 @@ pub cuts : Cuts
 cuts =
     record {
       alike = λ {cs} {es} {d} xs ys ps qs same a b.
-          list_over xs ps a ∙ (ap (λ (pins : List ℕ). over pins d) same ∙ sym (list_over ys qs b));
+          list_over a xs ps ∙ (ap (λ (pins : List ℕ). over pins d) same ∙ sym (list_over b ys qs));
       totals = λ {cs} {es} {d} xs ys ps qs same a b.
-          list_laps xs ps a ∙ (ap (λ (pins : List ℕ). overflows_over pins d) same ∙ sym (list_laps ys qs b));
+          list_laps a xs ps ∙ (ap (λ (pins : List ℕ). overflows_over pins d) same ∙ sym (list_laps b ys qs));
     }

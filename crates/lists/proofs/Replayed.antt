@@ -8,7 +8,7 @@ use lib.ListN.{length, take, drop, length-append}
 use lib.Seq.{drop-append_seam}
 use borrow.Author.Tests.{ne_eqb}
 use contract.Lifetimes.{Lfts}
-use denote.Ref.{Bor}
+use denote.Ref.{Bor, MutBor}
 use Rattle.machine.specs.declared.Device.{Device}
 use Rattle.machine.specs.declared.ReadAnswer.{ReadAnswer}
 use Rattle.machine.specs.declared.ReadAnswer.TheVariants as Read
@@ -132,7 +132,7 @@ replayed cs s d last before after w r e =
     same (run cs d) (length cs) last before after (run_long cs d) (all_few cs d) (rw (w.spelled before r) at e)
 
 -- The slices of a replay, and the answers as it leaves them
-module _ (calls lent before after : Bor (List ℕ)) where
+module _ (calls lent : Bor (List ℕ)) (before after : MutBor (List ℕ)) where
   abbrev given : Script
   given = script calls.now lent.now
 

@@ -2,7 +2,7 @@
 -- No promise is written out here: `Learnt` is what the check reads off a function's contract, and what a caller of it learns.
 use Rattle.std.specs.Prelude.{ℕ, ◌-◌, ◌*◌, ◌≤◌, ◌<◌, ◌≡◌, Bool, true, false, List, [], ◌∷◌, ◌++◌, length, drop}
 use base.Fml.{Lft}
-use Rattle.std.specs.Borrow.{Bor}
+use Rattle.std.specs.Borrow.{Bor, MutBor}
 use Rattle.machine.specs.declared.Device.{Device}
 use Rattle.machine.specs.declared.Answer.{Answer}
 use Rattle.machine.specs.declared.JumpAnswer.{JumpAnswer}
@@ -88,7 +88,7 @@ pub record AsksNothing : Type 0 where
   pub resets : (kind : ℕ) → reset-reads.Asked tt (kind, tt)
   pub reads : (d : Device) (a : ℕ) → read-reads.Asked tt (d, (a, tt))
   pub writes : (d : Device) (a v : ℕ) → write-reads.Asked tt (d, (a, (v, tt)))
-  pub saves : (κ : Lft) (d : Device) (buffer : Bor (List ℕ)) → save-reads.Asked (κ, tt) (d, (buffer, tt))
+  pub saves : (κ : Lft) (d : Device) (buffer : MutBor (List ℕ)) → save-reads.Asked (κ, tt) (d, (buffer, tt))
   pub loads : (κ : Lft) (file : Bor (List ℕ)) → load-reads.Asked (κ, tt) (file, tt)
   pub cycles : (d : Device) (pins : ℕ) → cycle-reads.Asked tt (d, (pins, tt))
   pub jumps : (d : Device) (pins n : ℕ) → jump-reads.Asked tt (d, (pins, (n, tt)))
@@ -159,7 +159,7 @@ pub record Demand3 : Type 0 where
   -- a list that is cut anywhere by a move, saved on one computer and loaded on another: every reply, and the device at the end, are
   -- those of the list without the move
   pub moved : {before after : List Call} {d saved last : Device} {earlier later : List Reply} (κ ι : Lft) {code : ℕ} {a : Answer}
-      (buffer filled file : Bor (List ℕ)) → Chained before d earlier saved → Sized saved
+      (buffer filled : MutBor (List ℕ)) (file : Bor (List ℕ)) → Chained before d earlier saved → Sized saved
       → save-reads.Learnt (κ, tt) (saved, (buffer, tt)) code (saved, (filled, tt)) → code ≡ 0 → file.now ≡ filled.now
       → load-reads.Learnt (ι, tt) (file, tt) a (file, tt) → Chained after a.device later last
       → ran (earlier ++ later) last ≡ run (before ++ after) d

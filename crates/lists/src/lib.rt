@@ -1,5 +1,7 @@
 // Whole lists of calls: `replay` runs a script through the public calls, each call on the device as the one before left it.
 // A script is rows of words, and so are its answers: specs/Script.antt says what they spell, and specs/Demand3.antt states demand 3.
+#![tactic(auto)]
+
 ghost use Rattle.std.specs.Prelude.{◌≡◌, ◌/◌, min};
 ghost use Rattle.calls.specs.Row.{answer_words};
 ghost use Rattle.machine.specs.Lists.Start.{from_reset, from_file};
