@@ -2,4 +2,3 @@ pub mod Joined
 pub mod PowerDown
 pub mod Promises
 pub mod Refused
-pub mod Structs
