@@ -2,3 +2,4 @@ pub mod Joined
 pub mod PowerDown
 pub mod Promises
 pub mod Refused
+pub mod Structs
