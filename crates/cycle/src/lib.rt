@@ -1,4 +1,6 @@
 // One machine cycle: steps 1 to 8 over the parts, on a record that the record check accepts.
+#![tactic(auto)]
+
 ghost use Rattle.std.specs.Prelude.{◌≡◌, ◌<◌, true};
 ghost use Rattle.machine.specs.Record.{accepted, pins_of, levels_of, levels_ok};
 ghost use Rattle.machine.specs.Cycle as Rule;

@@ -1,4 +1,6 @@
 // One counter of the 82C53: the record check, the control word and the latch, a byte written and a byte read, and one pulse.
+#![tactic(auto)]
+
 ghost use Rattle.std.specs.Prelude.{◌≡◌, true, ◌≤◌};
 ghost use Rattle.interval.specs.Count as Count;
 ghost use Rattle.interval.specs.Counter as Plain;

@@ -1,15 +1,14 @@
 -- The guards of a public call: what a test gave is what the machine asks, by the test's contract and the branch that was taken.
 use mathlib.Core.Path.{◌≡◌, sym, ap, ◌∙◌}
-use mathlib.Core.Bool.{Bool, true, false, not}
-use borrow.Author.Tests.{not-true, not-false}
+use mathlib.Core.Bool.{Bool, true, false}
 use Rattle.machine.specs.declared.Device.{Device}
 use Rattle.machine.specs.Lists.{Call, Reply, play}
 
-pub yes : {given asked : Bool} → given ≡ asked → not given ≡ false → asked ≡ true
-yes {given} e t = sym e ∙ not-false given t
+pub yes : {given asked : Bool} → given ≡ asked → given ≡ true → asked ≡ true
+yes e t = sym e ∙ t
 
-pub no : {given asked : Bool} → given ≡ asked → not given ≡ true → asked ≡ false
-no {given} e t = sym e ∙ not-true given t
+pub no : {given asked : Bool} → given ≡ asked → given ≡ false → asked ≡ false
+no e t = sym e ∙ t
 
 -- an answer that is the machine's, with what a definition reads off both
 pub told : {A B : Type 0} (f : A → B) {r a : A} → r ≡ a → (r ≡ a) × (f r ≡ f a)

@@ -1,4 +1,6 @@
 // The receiver of the serial port: a tick in modes 1 to 3, and a cycle in mode 0.
+#![tactic(auto)]
+
 ghost use Rattle.std.specs.Prelude.{◌≡◌, ◌%◌, ◌<◌, ◌≤◌, ◌≢◌};
 ghost use Rattle.machine.specs.Bits.{put_bit};
 ghost use Rattle.machine.specs.Record.{serial_mode};

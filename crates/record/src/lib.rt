@@ -1,4 +1,6 @@
 // The record check and reset: whether each field is within its range or mask, and the records that reset leaves.
+#![tactic(auto)]
+
 ghost use Rattle.std.specs.Prelude.{◌≡◌, cond, eqb};
 ghost use Rattle.machine.specs.Registers as Table;
 ghost use Rattle.machine.specs.Times as Times;

@@ -1,4 +1,6 @@
 // The registers: the table of addresses and implemented bits, reads and stores.
+#![tactic(auto)]
+
 ghost use Rattle.std.specs.Prelude.{◌≡◌, ◌<◌};
 ghost use Rattle.machine.specs.Registers as Table;
 ghost use Rattle.machine.specs.Calls as Calls;

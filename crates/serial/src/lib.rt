@@ -1,4 +1,6 @@
 // The serial port: sending, step 5 of a machine cycle, and the writes to SBUF and SCON.
+#![tactic(auto)]
+
 ghost use Rattle.std.specs.Prelude.{◌≡◌, ◌≤◌};
 ghost use Rattle.machine.specs.Record.{last_position};
 ghost use Rattle.machine.specs.Serial as S;

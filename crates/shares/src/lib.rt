@@ -1,5 +1,7 @@
 // The shares of a time slice: each tunnel's first part, and what is over from the first tunnel on. One pass over the wishes for what is
 // over, one that writes the shares.
+#![tactic(auto)]
+
 ghost use Rattle.std.specs.Prelude.{◌≡◌, ◌-◌, length};
 ghost use Rattle.slices.specs.Shares as Slice;
 

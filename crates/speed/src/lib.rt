@@ -1,4 +1,6 @@
 // The speed finder: from a wanted speed to SMOD and TH1 of Timer 1, by comparing the 512 pairs as fractions of whole numbers.
+#![tactic(auto)]
+
 ghost use Rattle.std.specs.Prelude.{◌≡◌, ◌<◌, ◌≤◌};
 ghost use Rattle.baud.specs.Speed as Wanted;
 ghost use Rattle.speed.specs.Chosen.{Allowed};

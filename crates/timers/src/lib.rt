@@ -1,4 +1,6 @@
 // Step 2 of a cycle: Timers 0 and 1.
+#![tactic(auto)]
+
 ghost use Rattle.std.specs.Prelude.{◌≡◌};
 ghost use Rattle.machine.specs.Timers as Step;
 

@@ -1,7 +1,6 @@
 -- `flagged` is the definition: the mask sets bit k.
 use Rattle.laws.proofs.Bits.{or_shl}
 use Rattle.machine.specs.Timers.{flagged}
-use borrow.Author.Rules.{rules}
 use Rattle.laws.proofs.flagged.Goals as goal
 
 pub returns : goal.returns

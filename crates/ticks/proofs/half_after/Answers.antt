@@ -1,0 +1,12 @@
+-- `ticks::half_after` is halfAfter: a sum that wraps at 256 keeps its lowest bit.
+use Rattle.std.proofs.Common.{◌≡◌, ◌+◌, ◌%◌, arith}
+use Rattle.laws.proofs.Bits.{low1}
+use Rattle.machine.specs.Serial.{half_after}
+use Rattle.ticks.proofs.half_after.Goals as goal
+
+pub returns : goal.returns
+unfolding half_after
+returns c =
+    let b = c in
+    let e : b.wrapping_add_u8.result % 2 ≡ (b.args.half + b.args.overflow1) % 2 = omega (arith, b.wrapping_add_u8.ensures) in
+    simp (c.picked.ensures, low1, e)

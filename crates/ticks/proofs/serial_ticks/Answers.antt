@@ -1,0 +1,10 @@
+-- `ticks::serial_ticks` is serialTicks: the fields of SCON, PCON and T2CON, and a call for each of its parts.
+use Rattle.laws.proofs.Bits.{low1}
+use Rattle.machine.specs.Serial.{serial_ticks}
+use Rattle.ticks.proofs.serial_ticks.Goals as goal
+
+pub returns : goal.returns
+unfolding serial_ticks
+returns c =
+    let b = c in
+    simp (c.half_after-half.ensures, c.ticks_of-receive.ensures, c.ticks_of-send.ensures, b.ticks1-by1.ensures, b.mode_of-mode.ensures, low1)
