@@ -1,4 +1,6 @@
 // The answers of the public calls, refused and passed, and the two tests of what a caller gives that need no device.
+#![tactic(auto)]
+
 ghost use Rattle.std.specs.Prelude.{◌≤◌, ◌≡◌};
 ghost use Rattle.machine.specs.Record.{kind_ok, pins_ok};
 ghost use Rattle.machine.specs.Calls as Machine;

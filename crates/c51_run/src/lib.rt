@@ -1,5 +1,7 @@
 // The public calls in which time passes. Each answers what the plain machine answers, on every record, pin byte, length and trace:
 // its refusals in their order, and then the call. Nothing else is exported.
+#![tactic(auto)]
+
 ghost use Rattle.std.specs.Prelude.{◌≡◌};
 ghost use Rattle.machine.specs.Calls as Machine;
 ghost use Rattle.machine.specs.Lists.{Call, play, reply_of_look};

@@ -1,5 +1,7 @@
 // The public calls of the 82C53. Each answers what the plain 82C53 answers, on every record, address, byte, gate byte and length: its
 // refusals in their order, and then the call. Nothing else is exported.
+#![tactic(auto)]
+
 ghost use Rattle.std.specs.Prelude.{◌≡◌};
 ghost use Rattle.interval.specs.Interval as Plain;
 ghost use Rattle.interval.specs.Calls as Calls;

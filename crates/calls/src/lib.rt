@@ -1,5 +1,7 @@
 // One call of a script by its number: played by the public call that the number names, its answer written down as a row. This is the
 // one place that tells calls by their numbers; specs/Row.antt says what a row spells.
+#![tactic(auto)]
+
 ghost use Rattle.std.specs.Prelude.{◌≡◌};
 ghost use Rattle.machine.specs.Lists.{play};
 ghost use Rattle.calls.specs.Row.{part_of, byte_in, call_of, shown, shown_plain, shown_jump, shown_run, shown_cycle, shown_take, shown_read, shown_offer, shown_look};

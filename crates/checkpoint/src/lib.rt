@@ -1,5 +1,7 @@
 // A file of a device's values: what writes one, part by part, and what reads one, from the front. specs/Checkpoint.antt of `machine`
 // says what a file and a reading are.
+#![tactic(auto)]
+
 ghost use Rattle.std.specs.Prelude.{◌≡◌, ◌⊎◌, ◌<◌, ◌≤◌, length, replicate};
 ghost use Rattle.machine.specs.Checkpoint as Checkpoint;
 ghost use Rattle.machine.specs.Checkpoint.{places};

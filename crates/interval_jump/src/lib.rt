@@ -1,4 +1,6 @@
 // n pulses of one counter of the 82C53 at once, with its gate held: in closed form, whatever n. specs/Jump.antt says how.
+#![tactic(auto)]
+
 ghost use Rattle.std.specs.Prelude.{◌≡◌, true, ◌≤◌, ◌^◌};
 ghost use Rattle.interval.specs.Counter.{pulses};
 ghost use Rattle.interval.specs.Interval.{counter_ok};

@@ -1,5 +1,7 @@
 // Jumps by rounds: a round is one busy cycle, or one stride over the quiet run ahead. Jumps, trace runs and looks go by the
 // same rounds. `pins` is the pin byte as the kind takes it.
+#![tactic(auto)]
+
 ghost use Rattle.std.specs.Prelude.{◌≡◌, true, ◌⊎◌, ◌≤◌};
 ghost use Rattle.machine.specs.Cycle.{cycles};
 ghost use Rattle.machine.specs.Totals.{added, totals, Within};

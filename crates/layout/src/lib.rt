@@ -1,5 +1,7 @@
 // The layout of a checkpoint, which what writes a file and what reads one go over part by part: the parts by their numbers, from the
 // front; and a number as bytes, low first. specs/Checkpoint.antt of `machine` has the layout as a list.
+#![tactic(auto)]
+
 ghost use Rattle.std.specs.Prelude.{◌≡◌, ◌+◌, ◌<◌, ◌≤◌, length, take, drop};
 ghost use Rattle.machine.specs.Checkpoint.{bytes_of, number_of, width_of};
 ghost use Rattle.laws.specs.Rows.{put};

@@ -1,5 +1,7 @@
 // Looks by the rounds of a jump: the first cycle in which a flag rises, and the first after which an interrupt is offered. They answer no
 // overflow totals. `pins` is the pin byte as the kind takes it.
+#![tactic(auto)]
+
 ghost use Rattle.std.specs.Prelude.{◌≡◌, ◌≤◌};
 ghost use Rattle.machine.specs.Calls.{longest, first_rise, first_offer};
 ghost use Rattle.jump.specs.Rounds.{Ready};

@@ -1,5 +1,7 @@
 // What lies ahead of a device: whether it is settled, and the quiet room, the cycles ahead in which nothing happens but
 // counting. `l` is the pin byte as the kind takes it.
+#![tactic(auto)]
+
 ghost use Rattle.std.specs.Prelude.{◌≡◌, false};
 ghost use Rattle.machine.specs.Power.{powered_down};
 ghost use Rattle.machine.specs.Record.{levels_of};

@@ -1,5 +1,7 @@
 // The stride, which makes the cycles of a quiet run at once: the counters move on, and nothing else happens. `l` is the pin
 // byte as the kind takes it.
+#![tactic(auto)]
+
 ghost use Rattle.std.specs.Prelude.{◌≡◌, ◌+◌, ◌%◌, ◌≤◌, if◌then◌else◌};
 ghost use Rattle.machine.specs.Counting as Counting;
 ghost use Rattle.machine.specs.Timers as Step;

@@ -1,5 +1,7 @@
 // Timer 1 alone counts in a settled device, in mode 2, and its overflow raises no flag: whether it is so, one reload, and
 // n cycles by rounds. `l` is the pin byte as the kind takes it.
+#![tactic(auto)]
+
 ghost use Rattle.std.specs.Prelude.{◌≡◌, ◌+◌, ◌≤◌};
 ghost use Rattle.strides.specs.Stride.{settled_at};
 ghost use Rattle.reload.specs.Reload as Reload;

@@ -4,13 +4,14 @@ use mathlib.Core.Path.{◌≡◌}
 use mathlib.Core.List.{List}
 use base.Fml.{Lft}
 use denote.Ref.{Bor}
+use denote.MutBor.{MutBor}
 use Rattle.slices.specs.Shares.{shares_answer}
 use Rattle.shares.specs.Fair.{Says}
 use Rattle.shares.proofs.Answers.{answers}
 use Rattle.shares.proofs.Fair.{fair_shares}
 use Rattle.shares.proofs.shares.Reads as shares-reads
 
-pub shares_promises : (κ ι : Lft) (b : ℕ) (wishes before after : Bor (List ℕ)) (code : ℕ)
+pub shares_promises : (κ ι : Lft) (b : ℕ) (wishes : Bor (List ℕ)) (before after : MutBor (List ℕ)) (code : ℕ)
     → shares-reads.Learnt (κ, (ι, tt)) (b, (wishes, (before, tt))) code (b, (wishes, (after, tt)))
     → (answers code after.now ≡ shares_answer b wishes.now before.now) × Says b wishes.now before.now (answers code after.now)
 shares_promises κ ι b wishes before after code e =

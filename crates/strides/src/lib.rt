@@ -1,1 +1,2 @@
 // The laws of quiet runs of cycles: definitions in specs/, laws in proofs/. No code.
+#![tactic(auto)]

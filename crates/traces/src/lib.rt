@@ -1,4 +1,6 @@
 // Trace runs: the entries judged whole, and then the cycles of each in turn, by jumps.
+#![tactic(auto)]
+
 ghost use Rattle.std.specs.Prelude.{◌≡◌, true, ◌≤◌, length};
 ghost use Rattle.machine.specs.Record.{accepted};
 ghost use Rattle.machine.specs.Calls.{most_entries, entry_pins, entry_cycles, entry_fault, trace_fault, trace_cycles, trace_totals};

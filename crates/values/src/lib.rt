@@ -1,5 +1,7 @@
 // A device as its values, each at its place, and the device of a kind that has such values. specs/Checkpoint.antt of `machine` says what
 // the places are.
+#![tactic(auto)]
+
 ghost use Rattle.std.specs.Prelude.{◌≡◌, length};
 ghost use Rattle.machine.specs.Checkpoint.{times_listed, values_of, device_with};
 ghost use Rattle.values.specs.Values.{timer_values, timer2_values, send_values, receive_values, serial_values, interrupt_values, most_at, cut, narrow};

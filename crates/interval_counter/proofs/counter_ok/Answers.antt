@@ -7,7 +7,6 @@ use borrow.Author.Tests.{le-leb}
 use Rattle.machine.specs.Record.{Hidden}
 use Rattle.machine.proofs.Choices.{joined, without}
 use Rattle.interval.specs.Interval.{mode_ok, format_ok, fields, counter_ok}
-use borrow.Author.Rules.{rules}
 use Rattle.interval_counter.proofs.counter_ok.Goals as goal
 
 pub returns : goal.returns
@@ -15,4 +14,4 @@ unfolding counter_ok fields
 returns c = let s = c.args.k in
     let low : s.low ≤ 255 = omega (arith, c.well_formed) in
     simp (c.most-top.ensures, le-leb _ _ low)
-    (joined (mode_ok s.mode) (format_ok s.format ∷ map (λ (h : Hidden). leb h.value h.most-top) (without 6 (fields s))))
+    (joined (mode_ok s.mode) (format_ok s.format ∷ map (λ (h : Hidden). leb h.value h.most) (without 6 (fields s))))

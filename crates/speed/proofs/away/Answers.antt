@@ -1,7 +1,6 @@
 -- `away` is its definition: the product fits.
 use Prim.Native.Nat.{◌*◌, ◌≤◌}
 use native.Mathlib.Omega.{arith}
-use borrow.Author.Rules.{rules}
 use Rattle.baud.specs.Speed.{away}
 use Rattle.speed.proofs.Fractions.{wanted-fits}
 use Rattle.speed.proofs.away.Goals as goal

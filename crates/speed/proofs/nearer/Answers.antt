@@ -1,5 +1,4 @@
 -- `nearer` is its definition: both distances are small enough to be compared.
-use borrow.Author.Rules.{rules}
 use Rattle.baud.specs.Speed.{as_near, nearer}
 use Rattle.speed.proofs.Fractions.{away-sized}
 use Rattle.speed.proofs.nearer.Goals as goal

@@ -1,13 +1,13 @@
 -- `nearest_place` ends with the first nearest pair of all: its loop has that of the pairs so far.
-use Prim.Native.Nat.{suc, ◌-◌, ◌≤◌}
+use Prim.Native.Nat.{suc, ◌≤◌}
 use mathlib.Core.Path.{◌≡◌, sym, ◌∙◌}
-use mathlib.Core.Logic.{⊎_elim}
 use native.Mathlib.Omega.{arith}
 use native.Mathlib.Numerals.{add-one}
 use borrow.Author.Rules.{rules}
 use Rattle.speed.specs.Nearest.{FirstNearest}
 use Rattle.speed.proofs.Nearest.{is_pair, first_one, taken, kept}
 use Rattle.speed.proofs.nearest_place.Goals as goal
+use Rattle.speed.proofs.nearest_place.Goals.{then-nearer, else-nearer}
 
 pub loop-n-init : goal.loop-n-init
 loop-n-init c = (first_one c.args.crystal c.args.rate, omega arith)
@@ -37,15 +37,13 @@ loop-n-smaller c = search rules
 
 pub loop-n-preserved : goal.loop-n-preserved
 loop-n-preserved c =
-    let t = c in
-    let w = t in
-    let a = w.args in
-    let e = simp (t.pair_at.ensures, t.pair_at-in-loop-n.ensures) at t.nearer.ensures in
-    let m : FirstNearest a.crystal a.rate (suc w.loop-n.n) c.if-nearer.best =
-    ⊎_elim
-    (λ x. rw x.1 (taken a.crystal a.rate w.loop-n.n w.loop-n.best w.loop-n.invariant.0 (sym e ∙ x.0.taken)))
-    (λ x. rw x.1 (kept a.crystal a.rate w.loop-n.n w.loop-n.best w.loop-n.invariant.0 (sym e ∙ x.0.left)))
-    c.if-nearer.branch
+    let a = c.args in
+    let e = simp (c.pair_at.ensures, c.pair_at-in-loop-n.ensures) at c.nearer.ensures in
+    let m : FirstNearest a.crystal a.rate (suc c.loop-n.n) c.if-nearer.best =
+    elim c.if-nearer.branch [
+      | then-nearer w ↦ rw w.best-is (taken a.crystal a.rate c.loop-n.n c.loop-n.best c.loop-n.invariant.0 (sym e ∙ w.if-nearer.true))
+      | else-nearer w ↦ rw w.best-is (kept a.crystal a.rate c.loop-n.n c.loop-n.best c.loop-n.invariant.0 (sym e ∙ w.if-nearer.false))
+    ]
     in
     (rw add-one m, omega arith)
 

@@ -1,11 +1,5 @@
-use Prim.Native.Nat.{suc, ◌-◌, ◌≤◌}
-use mathlib.Core.Path.{◌≡◌, sym, ◌∙◌}
-use mathlib.Core.Logic.{⊎_elim}
-use native.Mathlib.Omega.{arith}
-use native.Mathlib.Numerals.{add-one}
-use borrow.Author.Rules.{rules}
+use Prim.Native.Nat.{◌-◌, ◌≤◌}
 use Rattle.speed.specs.Nearest.{FirstNearest}
-use Rattle.speed.proofs.Nearest.{is_pair, first_one, taken, kept}
 use Rattle.speed.proofs.nearest_place.Given as goal
 
 abbrev pub invariant-loop-n : goal.invariant-loop-n

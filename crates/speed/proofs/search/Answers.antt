@@ -1,6 +1,5 @@
 -- `search` is its definition, by the first nearest pair.
 use mathlib.Core.Path.{sym, ap, ◌∙◌}
-use borrow.Author.Rules.{rules}
 use Rattle.laws.proofs.Guards.{yes, no}
 use Rattle.baud.specs.Speed.{found}
 use Rattle.speed.proofs.Fractions.{denominator_positive}

@@ -1,6 +1,5 @@
 -- `speed` is its definition: the limits, and then the search.
 use mathlib.Core.Path.{sym, ◌∙◌}
-use borrow.Author.Rules.{rules}
 use Rattle.laws.proofs.Guards.{yes, no}
 use Rattle.speed.proofs.Limits.{limits}
 use Rattle.speed.proofs.Outcome.{searched, refused}

@@ -2,7 +2,6 @@
 use Prim.Native.Nat.{◌*◌, ◌≤◌}
 use native.Mathlib.Omega.{arith}
 use native.Mathlib.Nat.{mul-le-mul}
-use borrow.Author.Rules.{rules}
 use Rattle.baud.specs.Speed.{within}
 use Rattle.speed.proofs.Fractions.{away-sized}
 use Rattle.speed.proofs.within.Goals as goal

@@ -1,0 +1,64 @@
+-- `cycle` is the machine's answer: the device as it stands in power-down, or the cycle by the contract of `cycle_once`; and the line of
+-- a device that stays accepted.
+use mathlib.Core.Path.{sym, ◌∙◌}
+use Rattle.machine.specs.Calls.{cycle_answer}
+use Rattle.machine.specs.Cycle.{cycle_of}
+use Rattle.cycle.proofs.Keeps.{cycle_accepted, sends_within}
+use Rattle.cycle.proofs.Steps.{cycle-reaches}
+use Rattle.laws.proofs.Sleep.{cycle-down}
+use Rattle.totals.proofs.Sums.{none_low}
+use Rattle.laws.proofs.Guards.{yes, no}
+use Rattle.c51_run.proofs.cycle.Goals as goal
+
+pub returns-then-not-accepts : goal.returns-then-not-accepts
+unfolding cycle_answer
+returns-then-not-accepts c = rw (no c.accepts.ensures c.if-not-accepts.true) c.refuse_cycle.ensures
+
+pub returns-then-not-pins_ok : goal.returns-then-not-pins_ok
+unfolding cycle_answer
+returns-then-not-pins_ok c =
+    let p = c in
+    rw (yes p.accepts.ensures p.if-not-accepts.false, no p.pins_ok.ensures c.if-not-pins_ok.true) c.refuse_cycle-then-not-pins_ok.ensures
+
+-- in power-down
+pub passed_cycle-requires : goal.passed_cycle-requires
+passed_cycle-requires c =
+    let p = c in
+    sends_within _ (yes p.accepts.ensures p.if-not-accepts.false)
+
+pub returns-then-powered_down : goal.returns-then-powered_down
+unfolding cycle_answer
+returns-then-powered_down c =
+    let w = c in
+    let p = w in
+    let x = p.args in
+    let down = cycle-down x.d (sym w.powered_down.ensures ∙ c.if-powered_down.true) x.pins in
+    rw (yes p.accepts.ensures p.if-not-accepts.false, yes p.pins_ok.ensures w.if-not-pins_ok.false, down) c.passed_cycle.ensures
+
+-- out of it
+pub cycle_once-r-requires : goal.cycle_once-r-requires
+cycle_once-r-requires c =
+    let p = c in
+    (yes p.accepts.ensures p.if-not-accepts.false, none_low c.none.ensures)
+
+pub passed_cycle-requires-2 : goal.passed_cycle-requires-2
+passed_cycle-requires-2 c =
+    let l = c in
+    let w = l in
+    let p = w in
+    let x = p.args in
+    let ok = yes p.accepts.ensures p.if-not-accepts.false in
+    let up = sym w.powered_down.ensures ∙ l.if-powered_down.false in
+    rw (cycle-reaches x.pins x.d up l.pins_of.ensures c.cycle_once-r.ensures.1) (sends_within (cycle_of x.pins x.d) (cycle_accepted x.pins x.d ok))
+
+pub returns : goal.returns
+unfolding cycle_answer
+returns c =
+    let o = c in
+    let l = o in
+    let w = l in
+    let p = w in
+    let x = p.args in
+    let up = sym w.powered_down.ensures ∙ l.if-powered_down.false in
+    let reaches = cycle-reaches x.pins x.d up l.pins_of.ensures o.cycle_once-r.ensures.1 in
+    rw (yes p.accepts.ensures p.if-not-accepts.false, yes p.pins_ok.ensures w.if-not-pins_ok.false, ← reaches) c.passed_cycle-2.ensures

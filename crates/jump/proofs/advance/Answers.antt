@@ -1,0 +1,55 @@
+-- The rounds up to where Timer 1's reload is all that happens, or to the end, and then the rest: by `Reached` and the laws of the reload.
+use mathlib.Core.Path.{◌≡◌, refl, sym, ◌∙◌}
+use mathlib.Core.Logic.{◌⊎◌, inl, inr}
+use Prim.Native.Nat.{ℕ}
+use native.Mathlib.Omega.{arith}
+use Rattle.record.proofs.Accepted.{ranges-of}
+use Rattle.jump.proofs.Idles.{idle-on, idle_laps, idle-rounds}
+use Rattle.jump.proofs.Reached.{rest-sums, rest-fits, rest-counts, rest-few, reached-end, reached-sum, reached-count}
+use Rattle.jump.proofs.advance.Goals as goal
+
+-- no cycle is left
+pub returns-then-gone-eq0 : goal.returns-then-gone-eq0
+returns-then-gone-eq0 c =
+    let g = c.rounds_to_idle-gone.ensures.0 in
+    let none = c.if-gone-eq0.true in
+    (reached-count g (omega arith), reached-sum g (omega arith), reached-end g (omega arith))
+
+-- the rest at once
+idles_on : {P : Type 0} {left : ℕ} → (left ≡ 0) ⊎ P → (left ≡ 0 → ⊥) → P
+idles_on (inl z) some = absurd (some z)
+idles_on (inr p) some = p
+
+pub idle-idled-requires : goal.idle-idled-requires
+idle-idled-requires c = (ranges-of _ c.rounds_to_idle-gone.ensures.0.ready.good).serial.half
+
+pub added-requires : goal.added-requires
+added-requires c =
+    let i = c in
+    let r = i.rounds_to_idle-gone in
+    let g = r.ensures.0 in
+    let laps = idle_laps _ r.result.run.device g.ready refl (idles_on r.ensures.1 i.if-gone-eq0.false) r.result.left in
+    rest-fits g (laps ∙ sym c.idle_totals.ensures) i.requires.1
+
+pub overflow_add-result : goal.overflow_add-result
+overflow_add-result c =
+    let q = c in
+    let r = q.rounds_to_idle-gone in
+    let g = r.ensures.0 in
+    let counts = idle-rounds _ r.result.run.device g.ready refl (idles_on r.ensures.1 q.if-gone-eq0.false) r.result.left in
+    let few = rest-few g (counts ∙ sym c.idle-idled.ensures.0) in
+    omega (arith, few, q.requires.1)
+
+pub returns : goal.returns
+returns c =
+    let i = c in
+    let r = i.rounds_to_idle-gone in
+    let g = r.ensures.0 in
+    let d = r.result.run.device in
+    let p = idles_on r.ensures.1 i.if-gone-eq0.false in
+    let n = r.result.left in
+    let idled = c.idle-idled.ensures in (
+      rest-counts g (idle-rounds _ d g.ready refl p n ∙ sym idled.0),
+      c.added.ensures ∙ rest-sums g (idle_laps _ d g.ready refl p n ∙ sym c.idle_totals.ensures),
+      idle-on _ d g.ready refl p n idled.1 g.ends,
+    )

@@ -1,0 +1,27 @@
+-- A round has its cycles and reaches where they end: by the laws of rounds, in both of its ways.
+use Rattle.std.proofs.Common.{◌≡◌, ℕ, ◌+◌, ◌-◌, min, sym, ap, ◌∙◌, arith, ne_eqb}
+use Rattle.reload.specs.Reload.{raised, unwound}
+use Rattle.reload.proofs.Rounds.{round_over, round_up}
+use Rattle.reload.proofs.idle_round.Goals as goal
+
+pub returns-then-room-eq0 : goal.returns-then-room-eq0
+returns-then-room-eq0 c =
+    let s = c in
+    let x = s.args.x in
+    (round_over s.args.k (unwound x) s.args.left (omega (arith, c.if-room-eq0.true)) s.requires.0 c.reloaded.ensures.0, c.reloaded.ensures.1)
+
+pub returns-else-room-eq0 : goal.returns-else-room-eq0
+unfolding raised
+returns-else-room-eq0 c =
+    let s = c in
+    let x = s.args.x in
+    let ok = s.requires.2 in
+    let room = ok.room in
+    let some = c.if-room-eq0.false in
+    let used = c.least-used.ensures in
+    let whole : 255 - (255 - x.room) ≡ x.room = omega arith in
+    let up : 255 - (x.room - c.least-used.result) ≡ 255 - x.room + c.least-used.result = omega arith in (
+      round_up s.args.k (unwound x) s.args.left (ne_eqb (255 - x.room) 255 (λ z. omega arith)) (omega arith) s.requires.0 (used ∙ ap (λ (m : ℕ). min m s.args.left) (sym whole))
+          (λ i. record { tl1 = up i; th1 = 255 - x.full; half = x.half; counter = x.counter; sample = x.sample }),
+      record { room = omega arith; full = ok.full; half = ok.half },
+    )
