@@ -16,7 +16,8 @@ import sys
 
 # Lemmas that would fall together with the definition that they are about, or with the library's: they get `_lem`.
 LEMMAS = """bit-and clear-bit digits-ok due-most first-set idle-cycles idle-marks or-else receive-at send-at slice-ok timer2-after
-timers-after times-after with-receive with-received with-sample with-send with-t2con with-votes"""
+timers-after times-after with-receive with-received with-sample with-send with-t2con with-votes at-most bad-tunnels bad-wish idle-rounds
+idle-totals levels-ok room-timers serial-settled start-found times-ok"""
 INSTEAD = {name: name.replace("-", "_") + "_lem" for name in LEMMAS.split()}
 
 # A field that would fall together with the definition that it is about.
@@ -45,10 +46,17 @@ def is_word(name):
     return re.fullmatch(r"[a-z][A-Za-z0-9_'-]*", name) and re.search(r"[A-Z-]", name)
 
 
+def is_answers(path):
+    """A function's own proof, whose goals are Rattle's names."""
+    return re.search(r"/proofs/.+/(Answers|Invariants)\.antt$", path)
+
+
 def declared(path):
     """The names that a file declares, but for the goals of a function's proof."""
     names = set()
     inside = False
+    if is_answers(path):
+        return names
     for line in open(path, encoding="utf-8"):
         if line.strip().startswith("--") or not line.strip():
             continue
@@ -70,6 +78,9 @@ def declared(path):
             names.add(member.group(1))
         elif not line.startswith(" "):
             inside = False
+        nested = re.match(r"\s+(?:pub |abbrev |unfoldable )*([a-z][\w'-]*)(?: \{[^{}]*\}| \([^()]*\))* :(?: |$)", line)
+        if nested and not line.strip().startswith("let "):
+            names.add(nested.group(1))
     return names
 
 
@@ -89,6 +100,7 @@ def turned(text, own, crates, path=""):
     """The text with the own names in snake case; of a comment the code spans alone."""
     kept = imported(text, crates)
     walk = path.endswith("Proof.antt")
+    answers = is_answers(path)
 
     def part(text):
         def one(match):
@@ -96,6 +108,8 @@ def turned(text, own, crates, path=""):
             if word not in own or word in kept:
                 return word
             if match.start() and text[match.start() - 1] == ".":
+                if answers:
+                    return word
                 return snake(word, {} if walk else FIELDS)
             return snake(word, INSTEAD if walk else {**INSTEAD, **FIELDS})
 
@@ -138,7 +152,7 @@ def main():
         kept = imported(text, crates)
         new = collections.defaultdict(set)
         for w in words:
-            spelled = {old: name for where, old, name in SPELLED if os.path.relpath(path, top) == where}
+            spelled = {old: name for where, old, name in SPELLED if os.path.relpath(path, top) == where and name not in words}
             new[snake(w, {**INSTEAD, **FIELDS}) if w in own and w not in kept else spelled.get(w, w)].add(w)
         for n, ws in new.items():
             if len(ws) > 1:
@@ -152,7 +166,7 @@ def main():
         text = open(path, encoding="utf-8").read()
         new = text
         for where, old, name in SPELLED:
-            if os.path.relpath(path, top) == where:
+            if os.path.relpath(path, top) == where and not re.search(rf"(?<![\w'-]){name}(?![\w'-])", new):
                 new = TOKEN.sub(lambda m: name if m.group(0) == old else m.group(0), new)
         new = turned(new, own, crates, path)
         if new != text:
@@ -162,7 +176,7 @@ def main():
         new = turned_rt(text, own, crates)
         if new != text:
             open(path, "w", encoding="utf-8").write(new)
-    for path in glob.glob(os.path.join(top, "crates/*/must-fail/*.edit")):
+    for path in sorted(glob.glob(os.path.join(top, "crates/*/must-fail/*.edit"))):
         text = open(path, encoding="utf-8").read()
         new = "\n".join(turned(line, own, crates) if re.match(r"(old|new): ", line) else line for line in text.split("\n"))
         if new != text:

@@ -8,7 +8,7 @@ use Rattle.values.specs.Values.{cut}
 use Rattle.checkpoint.specs.Reads.{state_of}
 use Rattle.checkpoint.proofs.Steps.{all}
 use Rattle.checkpoint.proofs.Loaded.{kind_read}
-use Rattle.c51_checkpoint.proofs.Answers.{load-faulty, load-over, load-whole}
+use Rattle.c51_checkpoint.proofs.Answers.{load_faulty, load_over, load_whole}
 use Rattle.c51_checkpoint.proofs.load.Statement.{statement}
 use Rattle.c51_checkpoint.proofs.load.Tie as tie
 
@@ -25,7 +25,7 @@ returns c =
     let r = t.before.before.before in
     c.refuse.ensures
     ∙ (ap (refuse r.read.result.code) c.before.zeros.ensures
-    ∙ load-faulty _ r.read.result (as_read r) r.read.ensures.1 t.if1.true)
+    ∙ load_faulty _ r.read.result (as_read r) r.read.ensures.1 t.if1.true)
 
 returns-2 : tie.Need-returns-2
 returns-2 c =
@@ -34,7 +34,7 @@ returns-2 c =
     let r = o.before.before.before in
     c.refuse2.ensures
     ∙ (ap (refuse 15) c.before.zeros2.ensures
-    ∙ load-over _ r.read.result (as_read r) r.read.ensures.1 o.if1.false t.if2.true)
+    ∙ load_over _ r.read.result (as_read r) r.read.ensures.1 o.if1.false t.if2.true)
 
 returns-3 : tie.Need-returns-3
 returns-3 c =
@@ -44,7 +44,7 @@ returns-3 c =
     let r = o.before.before.before in
     c.passed.ensures
     ∙ (ap passed (d.device-of.ensures ∙ ap (λ (kind : ℕ). device_with kind (cut r.read.result.values)) r.before.kind-in.ensures)
-    ∙ load-whole _ r.read.result (as_read r) r.read.ensures.1 o.if1.false t.if2.false)
+    ∙ load_whole _ r.read.result (as_read r) r.read.ensures.1 o.if1.false t.if2.false)
 
 pub load_spec : {M : Type 1} → statement M
 load_spec =

@@ -7,16 +7,16 @@ use Rattle.machine.specs.Record.{accepted}
 use Rattle.machine.specs.Checkpoint.{layout, written, file_of}
 use Rattle.layout.specs.Order.{length_of}
 use Rattle.layout.proofs.Order.{file_long}
-use Rattle.c51_checkpoint.proofs.Answers.{kind_of, not-refused, save-refused, save-passed}
+use Rattle.c51_checkpoint.proofs.Answers.{kind_of, not_refused, save_refused, save_passed}
 use Rattle.c51_checkpoint.proofs.save.Statement.{statement}
 use Rattle.c51_checkpoint.proofs.save.Tie as tie
 
 returns : tie.Need-returns
-returns c = save-refused _ _ _ c.before.refusal.ensures c.if1.true
+returns c = save_refused _ _ _ c.before.refusal.ensures c.if1.true
 
 -- past the refusals
 free : (c : tie.Else1) → (accepted c.before.before.before.args.d ≡ true) × (length c.before.before.before.args.buffer.now ≡ length_of c.before.before.before.args.d.kind)
-free c = not-refused _ _ (sym c.before.refusal.ensures ∙ c.if1.false)
+free c = not_refused _ _ (sym c.before.refusal.ensures ∙ c.if1.false)
 
 write-requires : tie.Need-write-requires
 write-requires c κs =
@@ -36,7 +36,7 @@ returns-2 c =
     let v = w.before.before in
     let e = v.before in
     let d = e.before.before.before.args.d in
-    save-passed d _ _ e.before.refusal.ensures e.if1.false _ (w.write.ensures ∙ ap (written (layout d.kind)) v.values_of.ensures)
+    save_passed d _ _ e.before.refusal.ensures e.if1.false _ (w.write.ensures ∙ ap (written (layout d.kind)) v.values_of.ensures)
 
 pub save_spec : {M : Type 1} → statement M
 save_spec =

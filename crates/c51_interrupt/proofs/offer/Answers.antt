@@ -4,7 +4,7 @@ use native.Mathlib.Omega.{arith}
 use Rattle.machine.specs.Calls.{offer_answer, offer_of}
 use Rattle.machine.specs.Interrupts.{source}
 use Rattle.machine.specs.Lists.{play, reply_of_offer}
-use Rattle.interrupts.proofs.Ranges.{offered-below, offered-none}
+use Rattle.interrupts.proofs.Ranges.{offered_below, offered_none}
 use Rattle.laws.proofs.Guards.{yes, no, told}
 use Rattle.c51_interrupt.proofs.offer.Goals as goal
 
@@ -19,7 +19,7 @@ returns-then-source-ge-NONE c =
     let a = o in
     let e = o.offered-source.ensures in
     let d = a.args.d in
-    told reply_of_offer (rw (yes a.accepts.ensures o.if-not-accepts.false, offered-none d.pcon d.interrupts (omega (arith, e))))
+    told reply_of_offer (rw (yes a.accepts.ensures o.if-not-accepts.false, offered_none d.pcon d.interrupts (omega (arith, e))))
 
 pub returns : goal.returns
 unfolding offer_answer offer_of play
@@ -28,4 +28,4 @@ returns c =
     let a = o in
     let e = o.offered-source.ensures in
     let d = a.args.d in
-    told reply_of_offer (rw (yes a.accepts.ensures o.if-not-accepts.false, offered-below d.pcon d.interrupts (omega (arith, e)) ∙ ap source (sym e), c.vector_of.ensures))
+    told reply_of_offer (rw (yes a.accepts.ensures o.if-not-accepts.false, offered_below d.pcon d.interrupts (omega (arith, e)) ∙ ap source (sym e), c.vector_of.ensures))

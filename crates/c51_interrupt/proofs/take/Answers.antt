@@ -7,8 +7,8 @@ use Rattle.machine.specs.Registers.{IDL}
 use Rattle.machine.specs.Calls.{take_answer, take_of}
 use Rattle.machine.specs.Interrupts.{source}
 use Rattle.laws.proofs.Bits.{clear_bit_lem}
-use Rattle.record.proofs.Accepted.{ranges-of}
-use Rattle.interrupts.proofs.Ranges.{offered-below, offered-none}
+use Rattle.record.proofs.Accepted.{ranges_of}
+use Rattle.interrupts.proofs.Ranges.{offered_below, offered_none}
 use Rattle.laws.proofs.Guards.{yes, no}
 use Rattle.c51_interrupt.proofs.take.Goals as goal
 
@@ -30,7 +30,7 @@ returns-then-source-ge-NONE c =
     let a = p in
     let e = o.offered-source.ensures in
     let d = a.args.d in
-    rw (yes a.accepts.ensures p.if-not-accepts.false, sym p.powered_down.ensures ∙ o.if-powered_down.false, offered-none d.pcon d.interrupts (omega (arith, e))) c.refuse_take-then-source-ge-NONE.ensures
+    rw (yes a.accepts.ensures p.if-not-accepts.false, sym p.powered_down.ensures ∙ o.if-powered_down.false, offered_none d.pcon d.interrupts (omega (arith, e))) c.refuse_take-then-source-ge-NONE.ensures
 
 pub returns : goal.returns
 unfolding take_answer take_of
@@ -47,9 +47,9 @@ returns c =
     simp (
       ok,
       sym p.powered_down.ensures ∙ o.if-powered_down.false,
-      offered-below d.pcon d.interrupts (omega (arith, e)) ∙ ap source (sym e),
+      offered_below d.pcon d.interrupts (omega (arith, e)) ∙ ap source (sym e),
       v.vector_of-vector.ensures,
       i.in_service-i.ensures,
       t.taken-tcon.ensures,
-      clear_bit_lem IDL (lit< tt) d.pcon (ranges-of d ok).pcon,
+      clear_bit_lem IDL (lit< tt) d.pcon (ranges_of d ok).pcon,
     )

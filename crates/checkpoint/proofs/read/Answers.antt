@@ -1,8 +1,8 @@
 -- `checkpoint::read` reads each part in turn: its invariant is proofs/Steps.antt's `Halfway`.
 use Prim.Native.Nat.{◌<◌}
 use Rattle.layout.specs.Order.{part_count}
-use Rattle.layout.proofs.Order.{part_placed, part-narrow}
-use Rattle.checkpoint.proofs.Steps.{read_first, read-on, read_out}
+use Rattle.layout.proofs.Order.{part_placed, part_narrow}
+use Rattle.checkpoint.proofs.Steps.{read_first, read_on, read_out}
 use Rattle.checkpoint.proofs.read.Goals as goal
 
 pub loop-n-init : goal.loop-n-init
@@ -19,7 +19,7 @@ read_part-r-requires c =
     let i = c in
     let s = i in
     let e = c.part-p.ensures in
-    (rw e (part_placed _ _ s.requires below), (rw e (part-narrow _ _ s.requires below), i.loop-n.invariant.inside))
+    (rw e (part_placed _ _ s.requires below), (rw e (part_narrow _ _ s.requires below), i.loop-n.invariant.inside))
 
 pub loop-n-preserved : goal.loop-n-preserved
 loop-n-preserved c =
@@ -27,7 +27,7 @@ loop-n-preserved c =
     let p = c in
     let i = p in
     let s = i in
-    read-on _ _ s.requires _ _ i.loop-n.invariant _ p.part-p.result below p.part-p.ensures c.read_part-r.ensures.0 c.read_part-r.ensures.1
+    read_on _ _ s.requires _ _ i.loop-n.invariant _ p.part-p.result below p.part-p.ensures c.read_part-r.ensures.0 c.read_part-r.ensures.1
 
 pub returns : goal.returns
 returns c =

@@ -5,13 +5,13 @@ use native.Mathlib.Omega.{arith}
 use lib.ListN.{length, take, drop}
 use Rattle.machine.specs.Checkpoint.{number_of, width_of}
 use Rattle.checkpoint.specs.Reads.{fault_of, state_of}
-use Rattle.checkpoint.proofs.Steps.{step-faulty, step-short, step-whole}
+use Rattle.checkpoint.proofs.Steps.{step_faulty, step_short, step_whole}
 use Rattle.checkpoint.proofs.read_part.Goals as goal
 
 pub returns-then-r-ne-PASSED : goal.returns-then-r-ne-PASSED
 returns-then-r-ne-PASSED c =
     let s = c in
-    (step-faulty _ _ s.args.p s.args.r c.if-r-ne-PASSED.true, s.requires.1.1)
+    (step_faulty _ _ s.args.p s.args.r c.if-r-ne-PASSED.true, s.requires.1.1)
 
 pub overflow_sub-file : goal.overflow_sub-file
 overflow_sub-file c = c.requires.1.1
@@ -20,7 +20,7 @@ pub returns-then-file-at : goal.returns-then-file-at
 returns-then-file-at c =
     let w = c in
     let s = w in
-    (step-short _ _ s.args.p s.args.r w.if-r-ne-PASSED.false s.requires.1.1 (rw w.width_of-width.ensures at c.if-file-at.true), s.requires.1.1)
+    (step_short _ _ s.args.p s.args.r w.if-r-ne-PASSED.false s.requires.1.1 (rw w.width_of-width.ensures at c.if-file-at.true), s.requires.1.1)
 
 pub number-n-requires : goal.number-n-requires
 number-n-requires c =
@@ -58,6 +58,6 @@ returns c =
     let number = m.number-n.ensures ∙ ap (λ (k : ℕ). number_of (take k (drop r.at file))) w in
     let code = c.fault-code.ensures ∙ ap (fault_of kind p n) v in (
       (λ k. state_of file (record { code = code k; at = r.at + w k; values = v k }))
-          ∙ step-whole kind file p r e.if-r-ne-PASSED.false s.requires.1.1 whole n number,
+          ∙ step_whole kind file p r e.if-r-ne-PASSED.false s.requires.1.1 whole n number,
       let h = s.requires.1.1 in omega (arith, w, whole),
     )

@@ -4,11 +4,11 @@ use mathlib.Core.Path.{◌≡◌, ap, ◌∙◌}
 use native.Mathlib.Omega.{arith}
 use lib.ListN.{get_or, drop}
 use Rattle.machine.specs.Checkpoint.{number_of}
-use Rattle.layout.proofs.Bytes.{chunk, sum-none, fits, inside, sum-on}
+use Rattle.layout.proofs.Bytes.{chunk, sum_none, fits, inside, sum_on}
 use Rattle.layout.proofs.number.Goals as goal
 
 pub loop-i-init : goal.loop-i-init
-loop-i-init c = sum-none _ _ _ c.requires.0
+loop-i-init c = sum_none _ _ _ c.requires.0
 
 pub overflow_mul-n : goal.overflow_mul-n
 overflow_mul-n c =
@@ -45,7 +45,7 @@ pub loop-i-preserved : goal.loop-i-preserved
 loop-i-preserved c =
     let t = c in
     let s = t in
-    sum-on _ _ _ s.requires.0 _ _ t.loop-i.invariant t.loop-i-test.true (byte c)
+    sum_on _ _ _ s.requires.0 _ _ t.loop-i.invariant t.loop-i-test.true (byte c)
 
 pub returns : goal.returns
 returns c =

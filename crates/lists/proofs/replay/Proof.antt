@@ -4,7 +4,7 @@ use borrow.Author.Rules.{rules}
 use lib.Dec.{lit<}
 use lib.ListN.{length-set}
 use Rattle.lists.specs.Script.{script}
-use Rattle.lists.proofs.Replays.{Halfway, at_first, fits-at, played-on, played-out}
+use Rattle.lists.proofs.Replays.{Halfway, at_first, fits_at, played_on, played_out}
 use Rattle.lists.proofs.replay.Statement.{statement}
 use Rattle.lists.proofs.replay.Tie as tie
 
@@ -20,35 +20,35 @@ loop-holds c = at_first _ _ _ _ c.rows_of_lem.ensures
 slice-write-answers-2 : tie.Need-slice-write-answers-2 invariant-loop decreases-loop
 slice-write-answers-2 c =
     let t = c.before.before.before.before.before in
-    simp length-set (fits-at _ _ _ _ t.before.loop.invariant t.loop-test.true 1 (lit< tt))
+    simp length-set (fits_at _ _ _ _ t.before.loop.invariant t.loop-test.true 1 (lit< tt))
 
 slice-write-answers-3 : tie.Need-slice-write-answers-3 invariant-loop decreases-loop
 slice-write-answers-3 c =
     let t = c.before.before.before.before.before in
-    simp length-set (fits-at _ _ _ _ t.before.loop.invariant t.loop-test.true 2 (lit< tt))
+    simp length-set (fits_at _ _ _ _ t.before.loop.invariant t.loop-test.true 2 (lit< tt))
 
 slice-write-answers-4 : tie.Need-slice-write-answers-4 invariant-loop decreases-loop
 slice-write-answers-4 c =
     let t = c.before.before.before.before.before in
-    simp length-set (fits-at _ _ _ _ t.before.loop.invariant t.loop-test.true 3 (lit< tt))
+    simp length-set (fits_at _ _ _ _ t.before.loop.invariant t.loop-test.true 3 (lit< tt))
 
 slice-write-answers-5 : tie.Need-slice-write-answers-5 invariant-loop decreases-loop
 slice-write-answers-5 c =
     let t = c.before.before.before.before.before in
-    simp length-set (fits-at _ _ _ _ t.before.loop.invariant t.loop-test.true 4 (lit< tt))
+    simp length-set (fits_at _ _ _ _ t.before.loop.invariant t.loop-test.true 4 (lit< tt))
 
 slice-write-answers-6 : tie.Need-slice-write-answers-6 invariant-loop decreases-loop
 slice-write-answers-6 c =
     let t = c.before.before.before.before.before in
-    simp length-set (fits-at _ _ _ _ t.before.loop.invariant t.loop-test.true 5 (lit< tt))
+    simp length-set (fits_at _ _ _ _ t.before.loop.invariant t.loop-test.true 5 (lit< tt))
 
 loop-again : tie.Need-loop-preserved invariant-loop decreases-loop
 loop-again c =
     let t = c.before.before.before.before.before.before in
-    played-on _ _ _ _ t.before.loop.invariant t.loop-test.true c.before.before.play-one.ensures
+    played_on _ _ _ _ t.before.loop.invariant t.loop-test.true c.before.before.play-one.ensures
 
 returns : tie.Need-returns invariant-loop decreases-loop
-returns c = played-out _ _ _ _ c.before.loop.invariant c.loop-test.false
+returns c = played_out _ _ _ _ c.before.loop.invariant c.loop-test.false
 
 pub replay_spec : {M : Type 1} → statement M
 replay_spec =

@@ -4,7 +4,7 @@ use Rattle.std.proofs.Common.{◌≡◌, ℕ, ◌≤◌, Bool, false, sym, ◌�
 use Rattle.machine.specs.declared.Device.{Device}
 use Rattle.machine.specs.Power.{powered_down}
 use Rattle.laws.proofs.Bits.{bits}
-use Rattle.strides.proofs.Strides.{room-timers, room-timer2}
+use Rattle.strides.proofs.Strides.{room_timers_lem, room_timer2}
 use Rattle.strides.specs.Stride.{awake_room, room_at, awake_stride, stride_at}
 use Rattle.quiet_stride.proofs.stride.Goals as goal
 
@@ -22,14 +22,14 @@ stride_timers-e-requires c =
     let u = c in
     let p = u in
     let a = p.args in
-    room-timers a.m a.l a.d (units a.m a.l a.d p.powered_down.ensures u.if-powered_down.false p.requires)
+    room_timers_lem a.m a.l a.d (units a.m a.l a.d p.powered_down.ensures u.if-powered_down.false p.requires)
 
 pub stride2-e-requires : goal.stride2-e-requires
 stride2-e-requires c =
     let u = c in
     let p = u in
     let a = p.args in
-    room-timer2 a.m a.l a.d (units a.m a.l a.d p.powered_down.ensures u.if-powered_down.false p.requires)
+    room_timer2 a.m a.l a.d (units a.m a.l a.d p.powered_down.ensures u.if-powered_down.false p.requires)
 
 pub returns : goal.returns
 unfolding stride_at awake_stride

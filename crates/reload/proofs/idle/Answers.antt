@@ -2,7 +2,7 @@
 use Rattle.std.proofs.Common.{arith}
 use Rattle.reload.specs.Reload.{idle_at, idle_rounds}
 use Rattle.reload.proofs.Laps.{smod_bit}
-use Rattle.reload.proofs.Rounds.{going_first, going_on, going_end, going-count}
+use Rattle.reload.proofs.Rounds.{going_first, going_on, going_end, going_count}
 use Rattle.reload.proofs.idle.Goals as goal
 
 pub loop-left-init : goal.loop-left-init
@@ -38,7 +38,7 @@ returns c =
     let at = end in
     let start = at in
     let g = at.loop-left.invariant.0 in (
-      simp (going-count g end.loop-left-test.false, start.lap_of-x.ensures.0, start.clocking_of-k.ensures),
+      simp (going_count g end.loop-left-test.false, start.lap_of-x.ensures.0, start.clocking_of-k.ensures),
       simp (
         c.put_lap.ensures,
         c.wrapping_add_u64.ensures.value,

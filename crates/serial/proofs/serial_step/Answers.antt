@@ -6,7 +6,7 @@ use Rattle.machine.specs.Record.{serial_mode}
 use Rattle.machine.specs.Serial.{with_half}
 use Rattle.receiver.proofs.Ranges.{Kept}
 use Rattle.serial.proofs.Quiet.{rest_idles}
-use Rattle.serial.proofs.Ranges.{ok, sends_below, ticks_kept, half_kept, step-shift, step-ticks}
+use Rattle.serial.proofs.Ranges.{ok, sends_below, ticks_kept, half_kept, step_shift, step_ticks}
 use Rattle.serial.proofs.serial_step.Goals as goal
 
 pub returns-then-idles : goal.returns-then-idles
@@ -41,7 +41,7 @@ returns-then-mode_of-eq0 c =
     let b = n in
     let a = b.args in
     simp (c.receive_shift.ensures, c.send_move.ensures)
-    (sym (step-shift a.k a.rxd a.s b.requires.ticks_ok.half b.requires.serial_ok (sym n.mode_of.ensures ∙ n.if-mode_of-eq0.true)))
+    (sym (step_shift a.k a.rxd a.s b.requires.ticks_ok.half b.requires.serial_ok (sym n.mode_of.ensures ∙ n.if-mode_of-eq0.true)))
 
 pub returns-else-mode_of-eq0 : goal.returns-else-mode_of-eq0
 returns-else-mode_of-eq0 c =
@@ -49,4 +49,4 @@ returns-else-mode_of-eq0 c =
     let b = n in
     let a = b.args in
     simp (c.receive_ticks.ensures, c.send_ticks.ensures)
-    (sym (step-ticks a.k a.rxd a.s b.requires.ticks_ok.half b.requires.serial_ok (λ e. n.if-mode_of-eq0.false (n.mode_of.ensures ∙ e))))
+    (sym (step_ticks a.k a.rxd a.s b.requires.ticks_ok.half b.requires.serial_ok (λ e. n.if-mode_of-eq0.false (n.mode_of.ensures ∙ e))))

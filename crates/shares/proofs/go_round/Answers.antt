@@ -3,7 +3,7 @@ use native.Mathlib.Nat.{min-le_left, min-le_right}
 use mathlib.Core.Path.{refl, sym, ◌∙◌}
 use native.Mathlib.Omega.{arith}
 use lib.ListN.{length-set}
-use Rattle.shares.proofs.Rounds.{round-on, round-out}
+use Rattle.shares.proofs.Rounds.{round_on, round_out}
 use borrow.Author.Rules.{rules}
 use Rattle.shares.proofs.go_round.Goals as goal
 
@@ -56,7 +56,7 @@ loop-i-preserved c =
     let w = c in
     let a = w.args in
     let t = c.loop-i-test.true in
-    let on = round-on a.wishes.now w.loop-i.i a.part w.loop-i.left w.loop-i.output t (omega (arith, w.loop-i.invariant.1)) in
+    let on = round_on a.wishes.now w.loop-i.i a.part w.loop-i.left w.loop-i.output t (omega (arith, w.loop-i.invariant.1)) in
     (search rules, rw length-set w.loop-i.invariant.1, rw (c.least-more.ensures, c.least-first.ensures) (on ∙ w.loop-i.invariant.2))
 
 pub shape_of-output : goal.shape_of-output
@@ -66,5 +66,5 @@ pub returns : goal.returns
 returns c =
     let w = c in
     let a = w.args in
-    sym (round-out a.wishes.now w.loop-i.i a.part w.loop-i.left w.loop-i.output c.loop-i-test.false w.loop-i.invariant.1)
+    sym (round_out a.wishes.now w.loop-i.i a.part w.loop-i.left w.loop-i.output c.loop-i-test.false w.loop-i.invariant.1)
     ∙ w.loop-i.invariant.2
