@@ -9,8 +9,8 @@ use mathlib.Core.List.{[], ◌∷◌, List}
 use lib.Dec.{T, eqb_refl}
 use lib.ListN.{length}
 use seplogic.Ra.Ura.{Ura}
-use seplogic.Ra.TreeShare.{full_share}
-use mir.Syntax.{Name, Width, w8, Ty, ty_int, ty_ref, ty_unit, named, imm, mut, Step as PStep, deref, field, place, Opd as Operand, copy, opd_unit, Rv as RValue, rv_opd, aggregate, Body, seq, assign, call, return, local, value_local, Fn}
+use base.Fraction.{full_share}
+use mir.Syntax.{Callee, Width, w8, Ty, ty_int, ty_ref, ty_unit, named, imm, mut, Step as PStep, deref, field, place, Opd as Operand, copy, opd_unit, Rv as RValue, rv_opd, aggregate, Body, seq, assign, call, return, local, value_local, Fn}
 use mir.Val.{Val, Vals, bytes, vunit, vint, vptr, vstruct, of_list, has_ty, WT}
 use mir.Fields.{get_v}
 use base.Logic.{SProp, ent, sep, emp, via, id⊢, emp∗, comm∗, mono_r, fst∗}
@@ -33,7 +33,7 @@ use denote.Laws.{Is, Ises, Are, Spells, Tells, Tellss, Typed, shows, valss}
 use denote.Memory.{mem, cell_at, pointee}
 use denote.Plain.{UInt, uint_Tells, uint_Makes, Nothing, Nothing-Makes}
 use denote.Builtin.{u8}
-use denote.Ref.{Bor, MutBor, MutRef, mut_vals, mut_Tells}
+use denote.Ref.{MutBor, MutRef, mut_vals, mut_Tells}
 use denote.Slice.{slice_ty, slice_val, shr_slice_Tells, mut_slice_Tells}
 use denote.Signature.{Slot, AllWithin, meet_at, plain, mut_ref_to, mut_slice_of, shr_slice_of, types_at}
 use denote.Steps.{opens, closes, owned, peeks, heard, only}
@@ -404,7 +404,7 @@ module _ {M : Type 1} {𝓤 : Ura M} {𝓛 : Logic 𝓤} {K : Type 0} {Γ : List
   struct_in t itself r n p = look_in t n p
 
 -- a function that is called: what it is handed at the values vs, and what it gives
-pub record Called {M : Type 1} {𝓤 : Ura M} (𝓛 : Logic 𝓤) (C : Calls 𝓤 𝓛.H) (f : Name) (vs : List Val) (X : Item 𝓤) (R : Declared) (B : Item 𝓤) (Says : R.D → Item 𝓤) : Type 2 where
+pub record Called {M : Type 1} {𝓤 : Ura M} (𝓛 : Logic 𝓤) (C : Calls 𝓤 𝓛.H) (f : Callee) (vs : List Val) (X : Item 𝓤) (R : Declared) (B : Item 𝓤) (Says : R.D → Item 𝓤) : Type 2 where
   pub post : Val → SProp 𝓤
   pub met : ent 𝓤 (mean 𝓛 X) (C f vs post)
   pub gives : (v : Val) → ent 𝓤 (post v) (mean 𝓛 (later (some (λ (r : R.D). (B ⊛ ‵ ((row R).own_val r (v ∷ []))) ⊛ Says r))))
@@ -425,7 +425,7 @@ module _ {M : Type 1} {𝓤 : Ura M} {𝓛 : Logic 𝓤} {K : Type 0} {Γ : List
       go))
 
   -- the function is called, its answer stands in the local i, and its struct goes behind the borrow, which is closed
-  puts_back : K → {S : Struct} {i j l₂ l₃ : ℕ} {R : Declared} {L : LL.Laws R} (c : Within S R L) {X Y Z B : Item 𝓤} {Says : R.D → Item 𝓤} {f : Name} {xs : List Operand} {vs : List Val} → FmC 𝓤 H 𝓛.laws C
+  puts_back : K → {S : Struct} {i j l₂ l₃ : ℕ} {R : Declared} {L : LL.Laws R} (c : Within S R L) {X Y Z B : Item 𝓤} {Says : R.D → Item 𝓤} {f : Callee} {xs : List Operand} {vs : List Val} → FmC 𝓤 H 𝓛.laws C
       → spot_of 𝓤 H E 1 ≡ (τ, l₁, zero) → spot_of 𝓤 H E i ≡ (layout (shape R), l₂, zero) → spot_of 𝓤 H E j ≡ (stored_as S, l₃, zero)
       → (h : Value S) → Called 𝓛 C f (value S h ∷ vs) X R B Says
       → Opds K 𝓛 (X ∷ Y ∷ Z ∷ ‵ (cell_at full_share (row S.type).mir (value S h ∷ []) b o) ∷ ‵ (fobor κ s (Lends S b o γ)) ∷ ‵ (Behind S γ h) ∷ ‵ (fauth γ ((row S.type).coded.code h)) ∷ ‵ (Holds τ l₁ (vptr b o)) ∷ ‵ (Holds (stored_as S) l₃ (value S h)) ∷ ‵ (froom (layout (shape R)) l₂ zero) ∷ Γ) E xs vs
@@ -455,7 +455,7 @@ asks_nothing 𝓤 P = via 𝓤 (sep 𝓤 (emp 𝓤) P) (emp∗ 𝓤 P) (comm∗ 
 abbrev reference : Struct → Ty
 reference S = ty_ref (named 0) mut (pointee (row S.type).written)
 
-module _ {S : Struct} (n : ℕ) (ps : List (Passed (suc n))) {R : Declared} {L : LL.Laws R} (at : Within S R L) (w : Way S ps (layout (shape R))) (y : Result R L) (f : Name) where
+module _ {S : Struct} (n : ℕ) (ps : List (Passed (suc n))) {R : Declared} {L : LL.Laws R} (at : Within S R L) (w : Way S ps (layout (shape R))) (y : Result R L) (f : Callee) where
   abbrev answer_at : ℕ
   answer_at = suc (suc (after (tys ps) 0))
 
@@ -466,6 +466,8 @@ module _ {S : Struct} (n : ℕ) (ps : List (Passed (suc n))) {R : Declared} {L :
   function = record {
     lifetimes = suc n;
     outlives = [];
+    ty_params = [];
+    givens = 0;
     params = suc (after (tys ps) 0);
     locals = local y.ty value_local ∷ local (reference S) value_local ∷ locals (tys ps) (local (layout (shape R)) value_local ∷ local (stored_as S) value_local ∷ locals w.more []);
     body =
@@ -489,10 +491,10 @@ module _ {S : Struct} (n : ℕ) (ps : List (Passed (suc n))) {R : Declared} {L :
       pub gives : (κs : Lfts (suc n)) (qs : Shares (suc n)) (h : Value S) (a : Others κs ps) (v : Val)
           → ent 𝓤 (d.post (to κs qs h a) v) (mean 𝓛 (later (some (λ (r : R.D). (raw (toks 𝓛 n κs.1 qs.1) ⊛ ‵ ((row R).own_val r (v ∷ []))) ⊛
           some (λ (ws : Unit {0} × Finals κs ps a). ‵ (fsep ftrue (lasts_of κs (slots ps) (kepts ps) a ws.1)) ⊛ raw (fact 𝓤 (Told κs h a r ws.1)))))))
-      pub shows : (κs : Lfts (suc n)) (x : Bor (Value S)) (a : Others κs ps) (g : (c κs (x, a)).ghost) (r : R.D) (ws : Finals κs ps a) → Told κs x.now a r ws
+      pub shows : (κs : Lfts (suc n)) (x : MutBor (Value S)) (a : Others κs ps) (g : (c κs (x, a)).ghost) (r : R.D) (ws : Finals κs ps a) → Told κs x.now a r ws
           → ent 𝓤 (emp 𝓤) ((c κs (x, a)).ensures g (y.res r) (at_exit export κs (x, a) (struct_of at r, ws)))
 
-module _ {S : Struct} {n : ℕ} {ps : List (Passed (suc n))} {R : Declared} {L : LL.Laws R} (at : Within S R L) (w : Way S ps (layout (shape R))) (y : Result R L) (f : Name)
+module _ {S : Struct} {n : ℕ} {ps : List (Passed (suc n))} {R : Declared} {L : LL.Laws R} (at : Within S R L) (w : Way S ps (layout (shape R))) (y : Result R L) (f : Callee)
     {M : Type 1} {𝓤 : Ura M} (𝓛 : Logic 𝓤) (C : Calls 𝓤 𝓛.H) (Λ : Loops 𝓤 𝓛.H) (d : Contract 𝓤) (known : Triple 𝓤 (C f) d) (c : Clauses 𝓤 (lending S n ps y.P)) (F : Follows n ps at w y f 𝓛 d c) where
   open 𝓛 use {H}
 
@@ -573,8 +575,8 @@ module _ {S : Struct} {n : ℕ} {ps : List (Passed (suc n))} {R : Declared} {L :
           move ! (0 ∷ 9 ∷ []) $ free1 ! $ move ! (6 ∷ 7 ∷ []) $ free1 ! $ move ! (5 ∷ []) $ free_all ! w.more (w.made κs a) (w.made_typed κs a typed) ms [] $ free0 ! $
           by ! (exits r ws.1 told known)))))))))))
 
-module _ {M : Type 1} {𝓤 : Ura M} (𝓛 : Logic 𝓤) (𝓜 : Model 𝓤 𝓛.H) (𝓡 : Running 𝓤 𝓛.H 𝓜) (γ : Routines) (key : Name)
-    {S : Struct} {n : ℕ} {ps : List (Passed (suc n))} {R : Declared} {L : LL.Laws R} (at : Within S R L) (w : Way S ps (layout (shape R))) (y : Result R L) (f : Name) where
+module _ {M : Type 1} {𝓤 : Ura M} (𝓛 : Logic 𝓤) (𝓜 : Model 𝓤 𝓛.H) (𝓡 : Running 𝓤 𝓛.H 𝓜) (γ : Routines) (key : Callee)
+    {S : Struct} {n : ℕ} {ps : List (Passed (suc n))} {R : Declared} {L : LL.Laws R} (at : Within S R L) (w : Way S ps (layout (shape R))) (y : Result R L) (f : Callee) where
   -- so an export meets its contract, where what it calls meets the contract d
   open 𝓛 use {H}
 
