@@ -18,15 +18,17 @@ speed: lib
 	@cd rust && cargo build --release --offline --quiet -p station
 	@rust/target/release/station --speed $(SPEED) || [ $$? = 1 ]
 
-# The C library: dist/libc51.a, of the exports of these crates, and dist/c51.h. Each archive is compiled by itself, and a large function
-# is made part of its caller only where the archive has one call of it: so each call of a device or a board has an archive.
+# The C library: dist/libc51.a, of the exports of these crates, the static libraries of crates.txt, and dist/c51.h. Each archive is compiled
+# by itself, and a large function is made part of its caller only where the archive has one call of it: so each call of a device or a board
+# has an archive.
 ARCHIVES = c51_read c51_write c51_save c51_load c51_offer c51_take c51_return c51_cycle c51_jump c51_trace c51_look \
 	c51_wake c51_board_cycle c51_board_jump c51_lent c53_lent
 lib:
 	@mkdir -p dist
 	@echo 'proving and building the library, some minutes the first time; log in dist/build.log'
-	@for crate in $(ARCHIVES); do rt staticlib $$crate || exit 1; done >dist/build.log 2>&1 || { cat dist/build.log; exit 1; }
-	@{ echo 'CREATE dist/libc51.a'; printf 'ADDLIB target/staticlib/lib%s.a\n' $(ARCHIVES); echo SAVE; echo END; } | ar -M
+	@for crate in $(ARCHIVES); do (cd crates/$$crate && rt lib) || exit 1; done >dist/build.log 2>&1 || { cat dist/build.log; exit 1; }
+	@rm -f dist/libc51.a
+	@{ echo 'CREATE dist/libc51.a'; printf 'ADDLIB %s\n' $(foreach crate,$(ARCHIVES),crates/$(crate)/out/lib$(crate).a); echo SAVE; echo END; } | ar -M
 	@cp include/c51.h dist/c51.h
 
 # dist/replay, which answers a call script (docs/SCRIPTS.md) on standard input.
@@ -57,4 +59,4 @@ model:
 	@cd model && cargo build --release --offline --quiet
 
 clean:
-	rm -rf target dist model/target rust/target
+	rm -rf crates/*/out dist model/target rust/target

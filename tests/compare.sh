@@ -97,7 +97,7 @@ same() {
         by_17=$((by_17 + q17))
         return
     fi
-    cp "$work/script" "target/differs.$bad.txt"
+    cp "$work/script" "dist/differs.$bad.txt"
 }
 
 for style in $styles; do

@@ -35,16 +35,11 @@ part() {
     failed=$((failed + bad))
 }
 
-# A check writes and removes many small files: in memory that costs it a second less, where there is room enough.
-prover=
-if [ -w /dev/shm ] && [ "$(df -Pk /dev/shm | awk 'NR == 2 { print $4 }')" -ge 2000000 ]; then prover='env TMPDIR=/dev/shm'; fi
-
+part 'proofs, must-fail edits and the layout of the files (rt ci)' sh tests/proofs.sh
 part 'layout: every crate and Rattle file listed, no axiom, no foreign function' sh tests/layout.sh
 part 'imports: every name that is imported is used' sh tests/imports.sh
 part 'edits: docs/PROOF.md lists the must-fail edits' sh tests/edits.sh
 part 'the tests of the sources find what they must' sh tests/finds.sh
-part 'proofs and must-fail edits (rt ci)' $prover rt ci
-part 'format (rt fmt --check)' sh tests/format.sh
 part 'the model by other hands (cargo test)' sh tests/cargo.sh model
 part 'the C library and the replay program are built' sh tests/build.sh
 part 'the C library: header and exports' sh tests/lib.sh

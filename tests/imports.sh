@@ -1,8 +1,8 @@
 #!/bin/sh
 # imports.sh [REPOSITORY]: no file of a crate imports a name that it does not use. An operator is used where its symbols stand in the
-# text; of `x as y` it is y that has to.
+# text, those between its ◌; of `x as y` it is y that has to.
 cd "${1:-"$(dirname "$0")/.."}" || exit 1
-files=$(find crates -name '*.rt' -o -name '*.antt' | sort)
+files=$(find crates -name out -prune -o \( -name '*.rt' -o -name '*.antt' \) -print | sort)
 [ -n "$files" ] || { echo 'imports: there is no file'; exit 1; }
 
 # shellcheck disable=SC2086
@@ -10,9 +10,9 @@ awk '
 function judged(    i, j, n, symbols, is_used, unused) {
     if (file == "") return
     for (i = 1; i <= names; i++) {
-        n = split(name[i], symbols, "_")
+        n = split(name[i], symbols, "◌")
         is_used = name[i] in used
-        if (!is_used && name[i] ~ /_/) {
+        if (!is_used && n > 1) {
             is_used = 1
             for (j = 1; j <= n; j++) if (symbols[j] != "" && !(symbols[j] in used)) is_used = 0
         }
@@ -27,11 +27,8 @@ function imported(text) {
     gsub(/[ \t]/, "", text)
     if (text != "") name[++names] = text
 }
-FNR == 1 { judged(); file = FILENAME }
-/^[ \t]*(--|\/\/)/ { next }
-/^(pub )?(ghost )?use / {
-    if ($0 ~ /^pub / || $0 ~ /[{, ]syntax /) next
-    line = $0
+# what the use line takes, all of it on one line
+function taken(    n, i, list) {
     sub(/;[ \t]*$/, "", line)
     if (line ~ /\{.*\}$/) {
         sub(/^[^{]*\{/, "", line)
@@ -44,11 +41,28 @@ FNR == 1 { judged(); file = FILENAME }
         sub(/^.*(::| )/, "", line)
         imported(line)
     }
+}
+FNR == 1 { listing = 0; judged(); file = FILENAME }
+/^[ \t]*(--|\/\/)/ { next }
+listing {
+    line = line $0
+    if ($0 !~ /}/) next
+    listing = 0
+    taken()
+    next
+}
+/^(pub )?(ghost )?use / {
+    if ($0 ~ /^pub / || $0 ~ /[{, ]syntax /) next
+    line = $0
+    if (line ~ /\{/ && line !~ /}/) { listing = 1; next }
+    taken()
     next
 }
 {
     sub(/(^|[ \t])(--|\/\/).*/, "")
     n = split($0, list, /[ \t(){};,.]+/)
+    for (i = 1; i <= n; i++) used[list[i]] = 1
+    n = split($0, list, /[][ \t(){};,.]+/)
     for (i = 1; i <= n; i++) used[list[i]] = 1
     if (FILENAME ~ /\.rt$/) {
         n = split($0, list, /[^A-Za-z0-9_]+/)

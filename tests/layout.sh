@@ -8,7 +8,8 @@ bad=0
 ok() { good=$((good + 1)); }
 fault() { bad=$((bad + 1)); printf 'layout: %s\n' "$1"; }
 
-listed=$(sed -e 's/#.*//' -e 's/^\([a-z0-9_]*\):.*/\1/' crates.txt | grep .)
+# a line is 'NAME: LIBRARIES', or 'NAME staticlib: LIBRARIES'
+listed=$(sed -e 's/#.*//' -e 's/^\([a-z0-9_]*\)[^:]*:.*/\1/' crates.txt | grep .)
 for dir in crates/*/; do
     name=$(basename "$dir")
     if printf '%s\n' "$listed" | grep -qx "$name"; then ok; else fault "crates/$name is not listed in crates.txt"; fi
@@ -19,7 +20,7 @@ done
 
 files=$(mktemp) || exit 1
 trap 'rm -f "$files"' EXIT
-find . \( -name .git -o -name target -o -name dist \) -prune -o \( -name '*.rt' -o -name '*.antt' \) -type f -print >"$files"
+find . \( -name .git -o -name target -o -name dist -o -path './crates/*/out' \) -prune -o \( -name '*.rt' -o -name '*.antt' \) -type f -print >"$files"
 while read -r file; do
     case $file in
     ./crates/*/src/*.rt | ./crates/*/specs/*.antt | ./crates/*/proofs/*.antt)
@@ -30,9 +31,10 @@ while read -r file; do
     esac
     case $file in
     ./crates/*/specs/Lib.antt | ./crates/*/proofs/Lib.antt | ./crates/*/proofs/*/Proof.antt | *.rt) ;;
+    ./crates/*/proofs/*/Invariants.antt | ./crates/*/proofs/*/Answers.antt) ;;
     *)
         module=$(basename "$file" .antt)
-        if grep -qx "pub mod $module" "$(dirname "$file")/Lib.antt" 2>/dev/null; then ok; else fault "$file is not declared in its Lib.antt"; fi
+        if grep -Eqx "(pub )?mod $module" "$(dirname "$file")/Lib.antt" 2>/dev/null; then ok; else fault "$file is not declared in its Lib.antt"; fi
         ;;
     esac
     case $file in

@@ -16,7 +16,8 @@ import sys
 
 # Lemmas that would fall together with the definition that they are about, or with the library's: they get `_lem`.
 LEMMAS = """bit-and clear-bit digits-ok due-most first-set idle-cycles idle-marks or-else receive-at send-at slice-ok timer2-after
-timers-after times-after with-receive with-received with-sample with-send with-t2con with-votes"""
+timers-after times-after with-receive with-received with-sample with-send with-t2con with-votes at-most bad-tunnels bad-wish idle-rounds
+idle-totals levels-ok room-timers serial-settled start-found times-ok"""
 INSTEAD = {name: name.replace("-", "_") + "_lem" for name in LEMMAS.split()}
 
 # A field that would fall together with the definition that it is about.
@@ -45,11 +46,16 @@ def is_word(name):
     return re.fullmatch(r"[a-z][A-Za-z0-9_'-]*", name) and re.search(r"[A-Z-]", name)
 
 
+def is_answers(path):
+    """A function's own proof, whose goals are Rattle's names."""
+    return re.search(r"/proofs/.+/(Answers|Invariants)\.antt$", path)
+
+
 def declared(path):
     """The names that a file declares, but for the goals of a function's proof."""
     names = set()
     inside = False
-    if path.endswith(("/Answers.antt", "/Invariants.antt")) and path.count("/proofs/") and not path.split("/proofs/")[1].count("/") == 0:
+    if is_answers(path):
         return names
     for line in open(path, encoding="utf-8"):
         if line.strip().startswith("--") or not line.strip():
@@ -94,7 +100,7 @@ def turned(text, own, crates, path=""):
     """The text with the own names in snake case; of a comment the code spans alone."""
     kept = imported(text, crates)
     walk = path.endswith("Proof.antt")
-    answers = path.endswith(("/Answers.antt", "/Invariants.antt")) and path.split("/proofs/")[1].count("/") > 0
+    answers = is_answers(path)
 
     def part(text):
         def one(match):
@@ -146,7 +152,7 @@ def main():
         kept = imported(text, crates)
         new = collections.defaultdict(set)
         for w in words:
-            spelled = {old: name for where, old, name in SPELLED if os.path.relpath(path, top) == where}
+            spelled = {old: name for where, old, name in SPELLED if os.path.relpath(path, top) == where and name not in words}
             new[snake(w, {**INSTEAD, **FIELDS}) if w in own and w not in kept else spelled.get(w, w)].add(w)
         for n, ws in new.items():
             if len(ws) > 1:
@@ -160,7 +166,7 @@ def main():
         text = open(path, encoding="utf-8").read()
         new = text
         for where, old, name in SPELLED:
-            if os.path.relpath(path, top) == where:
+            if os.path.relpath(path, top) == where and not re.search(rf"(?<![\w'-]){name}(?![\w'-])", new):
                 new = TOKEN.sub(lambda m: name if m.group(0) == old else m.group(0), new)
         new = turned(new, own, crates, path)
         if new != text:

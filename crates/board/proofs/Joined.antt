@@ -59,9 +59,9 @@ module _ (b : Board) (pins gates : ℕ) where
   abbrev joined : CycleAnswer → PulseAnswer → BoardCycleAnswer
   joined x y = cond (eqb (lower x.code y.code) 0) (both x y) (refuse_cycle (lower x.code y.code) b)
 
-  pub cycle-joined : cycle_answer b pins gates ≡ joined (Chip'.cycle_answer b.device pins) (pulse_answer b.interval gates)
+  pub cycle_joined : cycle_answer b pins gates ≡ joined (Chip'.cycle_answer b.device pins) (pulse_answer b.interval gates)
   unfolding cycle_answer accepted cycle lower Chip'.cycle_answer pulse_answer
-  cycle-joined =
+  cycle_joined =
       by_test (Device.accepted b.device)
       (λ d. by_test (Interval.accepted b.interval)
       (λ i. by_test (pins_ok pins)
@@ -73,18 +73,18 @@ module _ (b : Board) (pins gates : ℕ) where
       (λ i. simp (d, i)))
 
   module _ (n : ℕ) where
-    abbrev bothJumped : JumpAnswer → PulseAnswer → BoardJumpAnswer
-    bothJumped x y = record { code = 0; outputs = y.outputs; totals = x.totals; rounds = x.rounds; board = record { device = x.device; interval = y.interval } }
+    abbrev both_jumped : JumpAnswer → PulseAnswer → BoardJumpAnswer
+    both_jumped x y = record { code = 0; outputs = y.outputs; totals = x.totals; rounds = x.rounds; board = record { device = x.device; interval = y.interval } }
 
     -- refused by the 82C53, and then by the lower number of it and of a jump of no cycles; or by the chip; or both
-    abbrev joinedJump : PulseAnswer → JumpAnswer → JumpAnswer → BoardJumpAnswer
-    joinedJump y judged x =
-        cond (eqb y.code 0) (cond (eqb x.code 0) (bothJumped x y) (refuse_jump x.code b)) (refuse_jump (lower judged.code y.code) b)
+    abbrev joined_jump : PulseAnswer → JumpAnswer → JumpAnswer → BoardJumpAnswer
+    joined_jump y judged x =
+        cond (eqb y.code 0) (cond (eqb x.code 0) (both_jumped x y) (refuse_jump x.code b)) (refuse_jump (lower judged.code y.code) b)
 
-    pub jump-joined : jump_answer b pins gates n
-        ≡ joinedJump (Interval'.jump_answer b.interval gates n) (Chip'.jump_answer b.device pins 0) (Chip'.jump_answer b.device pins n)
+    pub jump_joined : jump_answer b pins gates n
+        ≡ joined_jump (Interval'.jump_answer b.interval gates n) (Chip'.jump_answer b.device pins 0) (Chip'.jump_answer b.device pins n)
     unfolding jump_answer accepted lower Chip'.jump_answer cycles_fault Interval'.jump_answer
-    jump-joined =
+    jump_joined =
         by_test (Device.accepted b.device)
         (λ d. by_test (Interval.accepted b.interval)
         (λ i. by_test (pins_ok pins)

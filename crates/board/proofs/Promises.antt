@@ -11,12 +11,12 @@ use Rattle.board.proofs.cycle.Reads as cycle-reads
 use Rattle.board.proofs.jump.Reads as jump-reads
 
 module _ (b : Board) (pins gates : ℕ) where
-  pub cycle-promises : (r : BoardCycleAnswer) → cycle-reads.Learnt tt (b, (pins, (gates, tt))) r (b, (pins, (gates, tt)))
+  pub cycle_promises : (r : BoardCycleAnswer) → cycle-reads.Learnt tt (b, (pins, (gates, tt))) r (b, (pins, (gates, tt)))
       → (r ≡ cycle_answer b pins gates) × (reply_of_cycle r ≡ (play (Call.cycle pins gates) b).reply)
   unfolding play
-  cycle-promises r = told reply_of_cycle
+  cycle_promises r = told reply_of_cycle
 
-  pub jump-promises : (n : ℕ) (r : BoardJumpAnswer) → jump-reads.Learnt tt (b, (pins, (gates, (n, tt)))) r (b, (pins, (gates, (n, tt))))
+  pub jump_promises : (n : ℕ) (r : BoardJumpAnswer) → jump-reads.Learnt tt (b, (pins, (gates, (n, tt)))) r (b, (pins, (gates, (n, tt))))
       → (r ≡ jump_answer b pins gates n) × (reply_of_jump r ≡ (play (Call.jump pins gates n) b).reply)
   unfolding play
-  jump-promises n r = told reply_of_jump
+  jump_promises n r = told reply_of_jump

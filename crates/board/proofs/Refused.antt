@@ -18,16 +18,16 @@ module _ (b : Board) (pins gates : ℕ) where
   abbrev SameJump : BoardJumpAnswer → Type 0
   SameJump a = (a.code ≡ 0 → ⊥) → (a.outputs ≡ 0) × ((a.totals ≡ no_totals) × ((a.rounds ≡ 0) × (a.board ≡ b)))
 
-  pub cycle-refused : SameCycle (cycle_answer b pins gates)
+  pub cycle_refused : SameCycle (cycle_answer b pins gates)
   unfolding cycle_answer
-  cycle-refused =
+  cycle_refused =
       chosen SameCycle (accepted b) _ _
       (chosen SameCycle (bytes_ok pins gates) _ _ (λ n. absurd (n refl)) (λ _. (refl, (refl, refl))))
       (λ _. (refl, (refl, refl)))
 
-  pub jump-refused : (n : ℕ) → SameJump (jump_answer b pins gates n)
+  pub jump_refused : (n : ℕ) → SameJump (jump_answer b pins gates n)
   unfolding jump_answer
-  jump-refused n =
+  jump_refused n =
       chosen SameJump (accepted b) _ _
       (chosen SameJump (bytes_ok pins gates) _ _
       (chosen SameJump (leb n longest) _ _ (λ n. absurd (n refl)) (λ _. (refl, (refl, (refl, refl)))))

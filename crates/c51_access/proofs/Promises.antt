@@ -17,11 +17,11 @@ unfolding play
 reset_promises kind d r = told reply_of
 
 module _ (d : Device) where
-  pub read-promises : (a : ℕ) (r : ReadAnswer) → read-reads.Learnt tt (d, (a, tt)) r (d, (a, tt))
+  pub read_promises : (a : ℕ) (r : ReadAnswer) → read-reads.Learnt tt (d, (a, tt)) r (d, (a, tt))
       → Says reply_of_read (Call.read a) d (read_answer d a) r
-  read-promises a r e = e
+  read_promises a r e = e
 
-  pub write-promises : (a v : ℕ) (r : Answer) → write-reads.Learnt tt (d, (a, (v, tt))) r (d, (a, (v, tt)))
+  pub write_promises : (a v : ℕ) (r : Answer) → write-reads.Learnt tt (d, (a, (v, tt))) r (d, (a, (v, tt)))
       → Says reply_of (Call.write a v) d (write_answer d a v) r
   unfolding play
-  write-promises a v r = told reply_of
+  write_promises a v r = told reply_of

@@ -1,5 +1,7 @@
 // For C: a jump of the board over a board that is lent by reference and altered there, thin over `board::jump`; nothing is asked of the
 // records. An export by itself, so that the compiler makes one function of it and all that it calls.
+#![tactic(auto)]
+
 ghost use Rattle.std.specs.Prelude.{◌≡◌};
 ghost use Rattle.board.specs.Board as Both;
 

@@ -16,14 +16,14 @@ use Rattle.machine.specs.Calls.{take_answer, take_of, return_answer, with_tcon, 
 use Rattle.laws.specs.Ranges.{InterruptsOk}
 use Rattle.laws.proofs.Bits.{clear_lt, clear_within}
 use Rattle.interrupts.proofs.Ranges.{taken_byte, in_service_ok, returned_ok}
-use Rattle.record.proofs.Accepted.{ranges-of, accepted_of}
+use Rattle.record.proofs.Accepted.{ranges_of, accepted_of}
 
 module _ (d : Device) (a : accepted d ≡ true) where
   -- PCON and TCON bytes, and PCON and the interrupt controller within their ranges
   changed : (pcon tcon : ℕ) (i : Interrupts) → pcon < 256 → within (implemented d.kind PCON) pcon ≡ true → tcon < 256
       → InterruptsOk d.kind i → accepted (with_interrupts pcon (with_tcon tcon d.timers) i d) ≡ true
   changed pcon tcon i p q t k =
-      let r = ranges-of d a in
+      let r = ranges_of d a in
       accepted_of (with_interrupts pcon (with_tcon tcon d.timers) i d)
       (record {
         kind = r.kind;
@@ -50,28 +50,28 @@ module _ (d : Device) (a : accepted d ≡ true) where
       })
 
   -- a take clears IDL
-  awoken-within : within (implemented d.kind PCON) (awoken d.pcon) ≡ true
-  awoken-within =
-      let r = ranges-of d a in
+  awoken_within : within (implemented d.kind PCON) (awoken d.pcon) ≡ true
+  awoken_within =
+      let r = ranges_of d a in
       let m = implemented d.kind PCON in
       eq-eqb (bit_and (awoken d.pcon) m) (awoken d.pcon) (clear_within IDL m d.pcon (lit< tt) r.pcon (eqb-true (bit_and d.pcon m) d.pcon r.pcon_bits))
 
-  of-take : (s : Source) → accepted (take_of d s).device ≡ true
+  of_take : (s : Source) → accepted (take_of d s).device ≡ true
   unfolding take_of
-  of-take none = a
-  of-take (source k) =
-      let r = ranges-of d a in
-      changed (awoken d.pcon) (taken k d.timers.tcon) (in_service k d.interrupts) (clear_lt 8 IDL d.pcon r.pcon) awoken-within
+  of_take none = a
+  of_take (source k) =
+      let r = ranges_of d a in
+      changed (awoken d.pcon) (taken k d.timers.tcon) (in_service k d.interrupts) (clear_lt 8 IDL d.pcon r.pcon) awoken_within
       (taken_byte k d.timers.tcon r.timers.tcon) (in_service_ok d.kind k d.interrupts r.interrupts)
 
-  pub take-kept : accepted (take_answer d).device ≡ true
+  pub take_kept : accepted (take_answer d).device ≡ true
   unfolding take_answer
-  take-kept = rw a (by_test (powered_down d.pcon) (λ down. rw down a) (λ up. rw up (of-take (offered d.pcon d.interrupts))))
+  take_kept = rw a (by_test (powered_down d.pcon) (λ down. rw down a) (λ up. rw up (of_take (offered d.pcon d.interrupts))))
 
   pub return_kept : accepted (return_answer d).device ≡ true
   unfolding return_answer
   return_kept =
-      let r = ranges-of d a in
+      let r = ranges_of d a in
       rw a
       (by_test (powered_down d.pcon) (λ down. rw down a)
       (λ up.

@@ -12,16 +12,16 @@ use Rattle.c51_interrupt.proofs.take.Reads as take-reads
 use Rattle.c51_interrupt.proofs.reti.Reads as return-reads
 
 module _ (d : Device) where
-  pub offer-promises : (r : OfferAnswer) → offer-reads.Learnt tt (d, tt) r (d, tt)
+  pub offer_promises : (r : OfferAnswer) → offer-reads.Learnt tt (d, tt) r (d, tt)
       → Says reply_of_offer Call.offer d (offer_answer d) r
-  offer-promises r e = e
+  offer_promises r e = e
 
-  pub take-promises : (r : TakeAnswer) → take-reads.Learnt tt (d, tt) r (d, tt)
+  pub take_promises : (r : TakeAnswer) → take-reads.Learnt tt (d, tt) r (d, tt)
       → Says reply_of_take Call.take d (take_answer d) r
   unfolding play
-  take-promises r = told reply_of_take
+  take_promises r = told reply_of_take
 
-  pub return-promises : (r : Answer) → return-reads.Learnt tt (d, tt) r (d, tt)
+  pub return_promises : (r : Answer) → return-reads.Learnt tt (d, tt) r (d, tt)
       → Says reply_of Call.return d (return_answer d) r
   unfolding play
-  return-promises r = told reply_of
+  return_promises r = told reply_of

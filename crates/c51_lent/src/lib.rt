@@ -2,6 +2,8 @@
 // lent by reference and altered there; reset; the record check of a record passed by value; and the speed finder and the shares of a time
 // slice, which meet no device. Each is thin over the public function of `lists`, `c51_access`, `record`, `speed` or `shares`; nothing is
 // asked of its arguments.
+#![tactic(auto)]
+
 ghost use Rattle.std.specs.Prelude.{◌≡◌};
 ghost use Rattle.machine.specs.Calls as Machine;
 ghost use Rattle.lists.specs.Script.{script, Replayed};
@@ -40,6 +42,7 @@ pub extern "C" fn c51_reset(kind: u8) -> Answer
 
 // 1 where the record is accepted.
 #[unsafe(no_mangle)]
+#[tactic(auto, unfolding(crate::specs::Answers::accepts_answer))]
 pub extern "C" fn c51_accepts(d: Device) -> u8
     ensures { result ≡ Numbers.accepts_answer d }
 {
@@ -48,6 +51,7 @@ pub extern "C" fn c51_accepts(d: Device) -> u8
 
 // SMOD and TH1 of Timer 1 for a crystal, a rate and a tolerance, or none: 14.
 #[unsafe(no_mangle)]
+#[tactic(auto, unfolding(crate::specs::Answers::found_answer))]
 pub extern "C" fn c51_speed(crystal: u64, rate: u64, tolerance: u64) -> FoundAnswer
     ensures { result ≡ Numbers.found_answer crystal rate tolerance }
 {

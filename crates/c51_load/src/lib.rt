@@ -1,5 +1,7 @@
 // For C: a load of a lent file, thin over `c51_checkpoint::load`; nothing is asked of the file. An export by itself, as each call of a
 // device is.
+#![tactic(auto)]
+
 ghost use Rattle.std.specs.Prelude.{◌≡◌};
 ghost use Rattle.machine.specs.Checkpoint as Machine;
 

@@ -1,5 +1,7 @@
 // For C: an offer of a device record passed by value, thin over `c51_interrupt::offer`; nothing is asked of the record. An export by
 // itself, so that the compiler makes one function of it and all that it calls.
+#![tactic(auto)]
+
 ghost use Rattle.std.specs.Prelude.{◌≡◌};
 ghost use Rattle.c51_offer.specs.Offered.{offered_answer};
 
@@ -16,6 +18,7 @@ pub struct OfferedAnswer {
 
 // The vector offered, or nothing: 1.
 #[unsafe(no_mangle)]
+#[tactic(auto, unfolding(crate::specs::Offered::offered_answer))]
 pub extern "C" fn c51_offer(d: Device) -> OfferedAnswer
     ensures { result ≡ offered_answer d }
 {

@@ -1,5 +1,7 @@
 // For C: a read of a device record passed by value, thin over `c51_access::read`; nothing is asked of the record. An export by itself,
 // so that the compiler makes one function of it and all that it calls.
+#![tactic(auto)]
+
 ghost use Rattle.std.specs.Prelude.{◌≡◌};
 ghost use Rattle.c51_read.specs.Value.{value_answer};
 
@@ -15,6 +17,7 @@ pub struct ValueAnswer {
 
 // Read a register, for SBUF the received byte: 1, 3.
 #[unsafe(no_mangle)]
+#[tactic(auto, unfolding(crate::specs::Value::value_answer))]
 pub extern "C" fn c51_read(d: Device, address: u8) -> ValueAnswer
     ensures { result ≡ value_answer d address }
 {

@@ -14,9 +14,9 @@ use Rattle.jump.proofs.Keeps.{cycles_accepted}
 use Rattle.traces.proofs.Keeps.{trace_accepted}
 
 module _ (d : Device) (a : accepted d ≡ true) where
-  pub cycle-kept : (pins : ℕ) → accepted (cycle_answer d pins).device ≡ true
+  pub cycle_kept : (pins : ℕ) → accepted (cycle_answer d pins).device ≡ true
   unfolding cycle_answer
-  cycle-kept pins =
+  cycle_kept pins =
       rw a (by_test (pins_ok pins) (λ good. rw good (cycle_accepted pins d a)) (λ bad. rw bad a))
 
   pub jump_kept : (pins n : ℕ) → accepted (jump_answer d pins n).device ≡ true
@@ -24,8 +24,8 @@ module _ (d : Device) (a : accepted d ≡ true) where
   jump_kept pins n =
       by_test (eqb (cycles_fault d pins n) 0) (λ good. rw good (cycles_accepted n pins d a)) (λ bad. rw bad a)
 
-  pub trace-kept : (es : List ℕ) → accepted (trace_answer d es).device ≡ true
+  pub trace_kept : (es : List ℕ) → accepted (trace_answer d es).device ≡ true
   unfolding trace_answer
-  trace-kept es =
+  trace_kept es =
       rw a
       (by_test (eqb (trace_fault es) 0) (λ good. rw good (trace_accepted es d a)) (λ bad. rw bad a))

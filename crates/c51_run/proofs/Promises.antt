@@ -24,33 +24,33 @@ use Rattle.c51_run.proofs.look.Reads as look-reads
 use Rattle.c51_run.proofs.wake.Reads as wake-reads
 
 module _ (d : Device) where
-  pub cycle-promises : (pins : ℕ) (r : CycleAnswer) → cycle-reads.Learnt tt (d, (pins, tt)) r (d, (pins, tt))
+  pub cycle_promises : (pins : ℕ) (r : CycleAnswer) → cycle-reads.Learnt tt (d, (pins, tt)) r (d, (pins, tt))
       → Says reply_of_cycle (Call.cycle pins) d (cycle_answer d pins) r
   unfolding play
-  cycle-promises pins r = told reply_of_cycle
+  cycle_promises pins r = told reply_of_cycle
 
-  pub jump-promises : (pins n : ℕ) (r : JumpAnswer) → jump-reads.Learnt tt (d, (pins, (n, tt))) r (d, (pins, (n, tt)))
+  pub jump_promises : (pins n : ℕ) (r : JumpAnswer) → jump-reads.Learnt tt (d, (pins, (n, tt))) r (d, (pins, (n, tt)))
       → Says reply_of_jump (Call.jump pins n) d (jump_answer d pins n) r
   unfolding play
-  jump-promises pins n r = told reply_of_jump
+  jump_promises pins n r = told reply_of_jump
 
   -- a jump takes at most 2 × busy cycles + 1 rounds; a refused one answers none
-  pub jump-most : (pins n : ℕ) (r : JumpAnswer) → jump-reads.Learnt tt (d, (pins, (n, tt))) r (d, (pins, (n, tt)))
+  pub jump_most : (pins n : ℕ) (r : JumpAnswer) → jump-reads.Learnt tt (d, (pins, (n, tt))) r (d, (pins, (n, tt)))
       → r.rounds ≤ 2 * busy_cycles (marks n pins d) + 1
   unfolding jump_answer
-  jump-most pins n r e =
+  jump_most pins n r e =
       rw e
       (by_test (eqb (cycles_fault d pins n) 0) (λ good. rw good (rounds_most n pins d)) (λ bad. rw bad (omega arith)))
 
-  pub trace-promises : (κ : Lft) (es : Bor (List ℕ)) (r : RunAnswer) → trace-reads.Learnt (κ, tt) (d, (es, tt)) r (d, (es, tt))
+  pub trace_promises : (κ : Lft) (es : Bor (List ℕ)) (r : RunAnswer) → trace-reads.Learnt (κ, tt) (d, (es, tt)) r (d, (es, tt))
       → Says reply_of_run (Call.trace es.now) d (trace_answer d es.now) r
   unfolding play
-  trace-promises κ es r = told reply_of_run
+  trace_promises κ es r = told reply_of_run
 
-  pub look-promises : (pins n : ℕ) (r : LookAnswer) → look-reads.Learnt tt (d, (pins, (n, tt))) r (d, (pins, (n, tt)))
+  pub look_promises : (pins n : ℕ) (r : LookAnswer) → look-reads.Learnt tt (d, (pins, (n, tt))) r (d, (pins, (n, tt)))
       → Says reply_of_look (Call.look pins n) d (look_answer d pins n) r
-  look-promises pins n r e = e
+  look_promises pins n r e = e
 
-  pub wake-promises : (pins n : ℕ) (r : LookAnswer) → wake-reads.Learnt tt (d, (pins, (n, tt))) r (d, (pins, (n, tt)))
+  pub wake_promises : (pins n : ℕ) (r : LookAnswer) → wake-reads.Learnt tt (d, (pins, (n, tt))) r (d, (pins, (n, tt)))
       → Says reply_of_look (Call.wake pins n) d (wake_answer d pins n) r
-  wake-promises pins n r e = e
+  wake_promises pins n r e = e

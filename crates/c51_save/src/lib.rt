@@ -1,5 +1,7 @@
 // For C: a save of a device record passed by value, into a lent buffer, thin over `c51_checkpoint::save`; nothing is asked of the record
 // or of the buffer. An export by itself, as each call of a device is.
+#![tactic(auto)]
+
 ghost use Rattle.std.specs.Prelude.{◌≡◌};
 ghost use Rattle.machine.specs.Checkpoint as Machine;
 

@@ -1,5 +1,7 @@
 // For C: a trace run over a device record that is lent by reference and altered there, thin over `c51_run::trace`; nothing is asked of
 // the record. An export by itself, so that the compiler makes one function of it and all that it calls.
+#![tactic(auto)]
+
 ghost use Rattle.std.specs.Prelude.{◌≡◌};
 ghost use Rattle.machine.specs.Calls as Machine;
 

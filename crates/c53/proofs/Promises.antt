@@ -19,22 +19,22 @@ pub reset_promises : (r : Interval) → reset-reads.Learnt tt tt r tt → r ≡ 
 reset_promises r e = e
 
 module _ (c : Interval) where
-  pub write-promises : (a v : ℕ) (r : WriteAnswer) → write-reads.Learnt tt (c, (a, (v, tt))) r (c, (a, (v, tt)))
+  pub write_promises : (a v : ℕ) (r : WriteAnswer) → write-reads.Learnt tt (c, (a, (v, tt))) r (c, (a, (v, tt)))
       → (r ≡ write_answer c a v) × (reply_of_write r ≡ (play (Call.write a v) c).reply)
   unfolding play
-  write-promises a v r = told reply_of_write
+  write_promises a v r = told reply_of_write
 
-  pub read-promises : (a : ℕ) (r : ReadAnswer) → read-reads.Learnt tt (c, (a, tt)) r (c, (a, tt))
+  pub read_promises : (a : ℕ) (r : ReadAnswer) → read-reads.Learnt tt (c, (a, tt)) r (c, (a, tt))
       → (r ≡ read_answer c a) × (reply_of_read r ≡ (play (Call.read a) c).reply)
   unfolding play
-  read-promises a r = told reply_of_read
+  read_promises a r = told reply_of_read
 
-  pub pulse-promises : (gates : ℕ) (r : PulseAnswer) → pulse-reads.Learnt tt (c, (gates, tt)) r (c, (gates, tt))
+  pub pulse_promises : (gates : ℕ) (r : PulseAnswer) → pulse-reads.Learnt tt (c, (gates, tt)) r (c, (gates, tt))
       → (r ≡ pulse_answer c gates) × (reply_of_pulse r ≡ (play (Call.pulse gates) c).reply)
   unfolding play
-  pulse-promises gates r = told reply_of_pulse
+  pulse_promises gates r = told reply_of_pulse
 
-  pub jump-promises : (gates n : ℕ) (r : PulseAnswer) → jump-reads.Learnt tt (c, (gates, (n, tt))) r (c, (gates, (n, tt)))
+  pub jump_promises : (gates n : ℕ) (r : PulseAnswer) → jump-reads.Learnt tt (c, (gates, (n, tt))) r (c, (gates, (n, tt)))
       → (r ≡ jump_answer c gates n) × (reply_of_pulse r ≡ (play (Call.jump gates n) c).reply)
   unfolding play
-  jump-promises gates n r = told reply_of_pulse
+  jump_promises gates n r = told reply_of_pulse

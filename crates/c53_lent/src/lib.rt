@@ -1,5 +1,7 @@
 // The library for C, the 82C53: the calls that alter its record, over one that is lent by reference and altered there, and the others over
 // one passed by value. Each is thin over the public call of `c53`; nothing is asked of the record.
+#![tactic(auto)]
+
 ghost use Rattle.std.specs.Prelude.{◌≡◌};
 ghost use Rattle.interval.specs.Interval as Plain;
 ghost use Rattle.interval.specs.Calls as Timer;
@@ -90,6 +92,7 @@ pub extern "C" fn c53_outputs(c: Interval) -> u8
 
 // 1 where the record is accepted.
 #[unsafe(no_mangle)]
+#[tactic(auto, unfolding(crate::specs::Answers::accepts_answer))]
 pub extern "C" fn c53_accepts(c: Interval) -> u8
     ensures { result ≡ Numbers.accepts_answer c }
 {

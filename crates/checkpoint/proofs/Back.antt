@@ -20,13 +20,13 @@ use Rattle.machine.specs.Checkpoint.Reading.{reading}
 use Rattle.machine.proofs.Choices.{by_test, and_two}
 use Rattle.laws.specs.Ranges.{Ranges}
 use Rattle.laws.proofs.Arrays.{elements, whole}
-use Rattle.record.proofs.Accepted.{ranges-of}
+use Rattle.record.proofs.Accepted.{ranges_of}
 use Rattle.layout.proofs.Bytes.{bytes_length, number_bytes}
 use Rattle.layout.proofs.Order.{Kind}
 use Rattle.values.specs.Values.{most_at}
 use Rattle.checkpoint.specs.Moves.{Sized}
 use Rattle.values.proofs.Fields.{fits}
-use Rattle.checkpoint.proofs.Front.{up_to, front-accepted}
+use Rattle.checkpoint.proofs.Front.{up_to, front_accepted}
 use Rattle.checkpoint.proofs.Steps.{all}
 use Rattle.checkpoint.proofs.Passes.{Passes, passes_read}
 use Rattle.checkpoint.proofs.Passes.Passes.{ends, mark, value}
@@ -65,11 +65,11 @@ module _ (kind : ℕ) (values : List ℕ) (full : length values ≡ places) (ok 
         at = λ p.
             by_test (ltb p places) (λ t. get_or-replicate places p 0 0 (ltb-true p places t))
             (λ t. get_or-eq_default (replicate places 0) 0 {n = p} (omega (arith, ltb-false p places t, length-replicate {A = ℕ} places 0)))
-            ∙ zero-up p;
+            ∙ zero_up p;
       }
     where
-      zero-up : (p : ℕ) → 0 ≡ up_to 0 v p
-      zero-up p = let e : ltb p 0 ≡ false = le-ltb p 0 (omega arith) in rw e
+      zero_up : (p : ℕ) → 0 ≡ up_to 0 v p
+      zero_up p = let e : ltb p 0 ≡ false = le-ltb p 0 (omega arith) in rw e
 
   -- one value more
   one_more : (k p : ℕ) → (p ≡ k → ⊥) → up_to k v p ≡ up_to (suc k) v p
@@ -110,11 +110,11 @@ module _ (kind : ℕ) (values : List ℕ) (full : length values ≡ places) (ok 
       }
 
   -- it holds
-  front-holds : (us : List ℕ) (k : ℕ) → Front us (suc k) → holds kind k us ≡ true
+  front_holds : (us : List ℕ) (k : ℕ) → Front us (suc k) → holds kind k us ≡ true
   unfolding holds
-  front-holds us k f =
+  front_holds us k f =
       let a : accepted (device_of kind us) ≡ true =
-      ap (λ (w : ℕ → ℕ). accepted (device_with kind w)) (λ i p. f.at p i) ∙ front-accepted (suc k) v kind ok in
+      ap (λ (w : ℕ → ℕ). accepted (device_with kind w)) (λ i p. f.at p i) ∙ front_accepted (suc k) v kind ok in
       by_test (eqb k place_of_received)
       (λ t.
       let e = eqb-true k place_of_received t in
@@ -156,7 +156,7 @@ module _ (kind : ℕ) (values : List ℕ) (full : length values ≡ places) (ok 
       (subst (λ (q : ℕ). Front (set us q (v q)) (suc k)) (sym e) (next us k l f)) in
       let r = reads parts (set us place (number_of chunk)) more (suc k) s.1 h g in
       let w : holds kind place (set us place (number_of chunk)) ≡ true =
-      subst (λ (q : ℕ). holds kind q (set us place (number_of chunk)) ≡ true) (sym e) (front-holds (set us place (number_of chunk)) k g) in
+      subst (λ (q : ℕ). holds kind q (set us place (number_of chunk)) ≡ true) (sym e) (front_holds (set us place (number_of chunk)) k g) in
       record {
         last = r.last;
         passes =
@@ -238,14 +238,14 @@ module _ (d : Device) (sized : Sized d) where
   unfolding values_of
   spelt = λ i. front d (levels i ++ times_listed (ever i) (number i))
 
-  values-long : length (values_of d) ≡ places
+  values_long : length (values_of d) ≡ places
   unfolding registers hidden_fields times_listed
-  values-long = ap length (sym spelt)
+  values_long = ap length (sym spelt)
 
   -- the device of its values
-  pub device-back : device_of d.kind (values_of d) ≡ d
+  pub device_back : device_of d.kind (values_of d) ≡ d
   unfolding registers hidden_fields times_listed device_with
-  device-back =
+  device_back =
       ap (device_of d.kind) (sym spelt)
       ∙ (λ i. record {
         kind = d.kind;
@@ -260,33 +260,33 @@ module _ (d : Device) (sized : Sized d) where
       })
 
   -- SBUF stands for the received byte
-  received-twice : get_or (values_of d) place_of_received 0 ≡ get_or (values_of d) place_of_sbuf 0
+  received_twice : get_or (values_of d) place_of_received 0 ≡ get_or (values_of d) place_of_sbuf 0
   unfolding values_of registers hidden_fields
-  received-twice = refl
+  received_twice = refl
 
   module _ (ok : accepted d ≡ true) where
     ranges : Ranges d
-    ranges = ranges-of d ok
+    ranges = ranges_of d ok
 
     wide : get_or (values_of d) place_of_received 0 ≤ 2 ^ 64 - 1
     unfolding values_of registers hidden_fields
     wide = let r = ranges.serial.received in omega arith
 
-    values-ok : accepted (device_of d.kind (values_of d)) ≡ true
-    values-ok = ap accepted device-back ∙ ok
+    values_ok : accepted (device_of d.kind (values_of d)) ≡ true
+    values_ok = ap accepted device_back ∙ ok
 
     abbrev At : List ℕ → ℕ → Type 0
-    At us k = Front d.kind (values_of d) values-long values-ok received-twice wide us k
+    At us k = Front d.kind (values_of d) values_long values_ok received_twice wide us k
 
     -- the registers, and on kind 51 those that it lacks
-    after-registers : (us : List ℕ) → Kind d.kind → At us (past 0 (register_section d.kind)) → At us 16
+    after_registers : (us : List ℕ) → Kind d.kind → At us (past 0 (register_section d.kind)) → At us 16
     unfolding values_of registers hidden_fields
-    after-registers us (inl e) f =
+    after_registers us (inl e) f =
         let z = ranges.absent e in
         let g : At us 11 = subst (λ (k : ℕ). At us k) (ap (λ (kind : ℕ). past 0 (register_section kind)) e ∙ registers_past51) f in
-        let on = skip d.kind (values_of d) values-long values-ok received-twice wide us in
+        let on = skip d.kind (values_of d) values_long values_ok received_twice wide us in
         on 15 z.th2 (on 14 z.tl2 (on 13 z.rcap2h (on 12 z.rcap2l (on 11 z.t2con g))))
-    after-registers us (inr e) f =
+    after_registers us (inr e) f =
         subst (λ (k : ℕ). At us k) (ap (λ (kind : ℕ). past 0 (register_section kind)) e ∙ registers_past52) f
 
     pub read_back : all d.kind (file_of d) ≡ reading (values_of d) []
@@ -295,13 +295,13 @@ module _ (d : Device) (sized : Sized d) where
         let kind = d.kind in
         let values = values_of d in
         let k = ranges.kind in
-        let registered = reads kind values values-long values-ok received-twice wide (register_section kind) (replicate places 0)
+        let registered = reads kind values values_long values_ok received_twice wide (register_section kind) (replicate places 0)
         (written other_sections values) 0 (registers_consecutive kind k) (registers_most kind k)
-        (first kind values values-long values-ok received-twice wide) in
-        let others = reads kind values values-long values-ok received-twice wide other_sections registered.last [] 16
-        others_consecutive (omega (arith, others_past)) (after-registers registered.last k registered.front) in
+        (first kind values values_long values_ok received_twice wide) in
+        let others = reads kind values values_long values_ok received_twice wide other_sections registered.last [] 16
+        others_consecutive (omega (arith, others_past)) (after_registers registered.last k registered.front) in
         let last : others.last ≡ values =
-        all_read kind values values-long values-ok received-twice wide others.last (subst (λ (n : ℕ). At others.last n) others_past others.front) in
+        all_read kind values values_long values_ok received_twice wide others.last (subst (λ (n : ℕ). At others.last n) others_past others.front) in
         let none : written other_sections values ++ [] ≡ written other_sections values = append-nil (written other_sections values) in
         let second = subst (λ (bytes : List ℕ). Passes kind other_sections registered.last bytes others.last []) none others.passes in
         let both = passes_append kind registered.passes second in

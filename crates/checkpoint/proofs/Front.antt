@@ -14,7 +14,7 @@ use Rattle.machine.specs.Times.{pair_ok, pairs_ok}
 use Rattle.machine.specs.Checkpoint.{device_with}
 use Rattle.machine.proofs.Choices.{cond_has, by_test, and_two}
 use Rattle.laws.specs.Ranges.{Ranges}
-use Rattle.record.proofs.Accepted.{ranges-of, accepted_of}
+use Rattle.record.proofs.Accepted.{ranges_of, accepted_of}
 
 -- the values of the first k places
 abbrev pub up_to : ℕ → (ℕ → ℕ) → ℕ → ℕ
@@ -83,9 +83,9 @@ module _ (k : ℕ) (v : ℕ → ℕ) where
       let s = and_two (pair_ok (v p) (v (suc p))) (pairs_ok (at v ps) (after v ps)) h in
       rw (pair p s.0) (pairs ps s.1)
 
-  front-ranges : (kind : ℕ) → Ranges (device_with kind v) → Ranges (device_with kind w)
+  front_ranges : (kind : ℕ) → Ranges (device_with kind v) → Ranges (device_with kind w)
   unfolding device_with
-  front-ranges kind r =
+  front_ranges kind r =
       let t = r.timers in
       let u = r.timer2 in
       let s = r.serial in
@@ -159,5 +159,5 @@ module _ (k : ℕ) (v : ℕ → ℕ) where
         times = pairs (41 ∷ 43 ∷ 45 ∷ 47 ∷ 49 ∷ 51 ∷ 53 ∷ 55 ∷ []) r.times;
       }
 
-  pub front-accepted : (kind : ℕ) → accepted (device_with kind v) ≡ true → accepted (device_with kind w) ≡ true
-  front-accepted kind ok = accepted_of (device_with kind w) (front-ranges kind (ranges-of (device_with kind v) ok))
+  pub front_accepted : (kind : ℕ) → accepted (device_with kind v) ≡ true → accepted (device_with kind w) ≡ true
+  front_accepted kind ok = accepted_of (device_with kind w) (front_ranges kind (ranges_of (device_with kind v) ok))

@@ -15,12 +15,12 @@ use Rattle.machine.specs.Checkpoint.{times_listed, values_of, place_of_received,
 use Rattle.machine.specs.Checkpoint.Reading.{reading}
 use Rattle.machine.proofs.Choices.{chosen}
 use Rattle.laws.proofs.Arrays.{elements, whole}
-use Rattle.record.proofs.Accepted.{ranges-of}
+use Rattle.record.proofs.Accepted.{ranges_of}
 use Rattle.layout.specs.Bytes.{Bytes}
 use Rattle.layout.proofs.Order.{Kind}
 use Rattle.values.specs.Values.{cut}
 use Rattle.checkpoint.proofs.Steps.{all}
-use Rattle.values.proofs.Room.{made-same, narrow-of}
+use Rattle.values.proofs.Room.{made_same, narrow_of}
 use Rattle.checkpoint.proofs.Passes.{Passes, passes, still_accepted, as_many, distinct, read_as_written, compared, same_received}
 
 -- no values read yet
@@ -47,34 +47,34 @@ pub kind_read : (file : List ℕ) → Kind (kind_in file)
 kind_read file = chosen Kind (eqb (get_or file 0 0) 11) 51 52 (inl refl) (inr refl)
 
 module _ (kind : ℕ) (k : Kind kind) (file values rest : List ℕ) (e : all kind file ≡ reading values rest) where
-  passed-so : Passes kind (layout kind) none file values rest
-  passed-so = passes kind (layout kind) none file values rest e
+  passed_so : Passes kind (layout kind) none file values rest
+  passed_so = passes kind (layout kind) none file values rest e
 
   long : length values ≡ places
-  long = as_many kind passed-so ∙ length-replicate {A = ℕ} places 0
+  long = as_many kind passed_so ∙ length-replicate {A = ℕ} places 0
 
-  pub loaded-accepted : accepted (device_of kind values) ≡ true
-  loaded-accepted = still_accepted kind passed-so (none_accepted kind k)
+  pub loaded_accepted : accepted (device_of kind values) ≡ true
+  loaded_accepted = still_accepted kind passed_so (none_accepted kind k)
 
   same : get_or values place_of_received 0 ≡ get_or values place_of_sbuf 0
-  same = same_received kind passed-so (layout_compared kind k)
+  same = same_received kind passed_so (layout_compared kind k)
 
   -- the code's device is that of the values
-  pub loaded-made : device_with kind (cut values) ≡ device_of kind values
+  pub loaded_made : device_with kind (cut values) ≡ device_of kind values
   unfolding device_with
-  loaded-made =
-      let r = (ranges-of (device_of kind values) loaded-accepted).serial.received in
-      made-same values long (narrow-of values long kind loaded-accepted (omega (arith, same, r))) kind
+  loaded_made =
+      let r = (ranges_of (device_of kind values) loaded_accepted).serial.received in
+      made_same values long (narrow_of values long kind loaded_accepted (omega (arith, same, r))) kind
 
   -- its values are those that were read
-  own-values : values_of (device_of kind values) ≡ values
+  own_values : values_of (device_of kind values) ≡ values
   unfolding values_of registers hidden_fields times_listed device_with
-  own-values =
+  own_values =
       let whole57 = whole 0 57 values long in
       ap (set (elements 0 57 0 values) 25) (sym same) ∙ whole57
 
-  pub loaded-written : Bytes file → file ≡ file_of (device_of kind values) ++ rest
+  pub loaded_written : Bytes file → file ≡ file_of (device_of kind values) ++ rest
   unfolding file_of device_with
-  loaded-written b =
-      read_as_written kind passed-so (layout_distinct kind k) (length-replicate {A = ℕ} places 0) b
-      ∙ ap (λ (vs : List ℕ). written (layout kind) vs ++ rest) (sym own-values)
+  loaded_written b =
+      read_as_written kind passed_so (layout_distinct kind k) (length-replicate {A = ℕ} places 0) b
+      ∙ ap (λ (vs : List ℕ). written (layout kind) vs ++ rest) (sym own_values)

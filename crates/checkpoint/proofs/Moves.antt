@@ -17,13 +17,13 @@ use Rattle.machine.specs.Record.{accepted, zeros}
 use Rattle.machine.specs.Calls.{passed}
 use Rattle.machine.specs.Checkpoint.{Reading, bytes_of, number_of, values_of, places, device_of, joined, section, register_entries, number_entries, time_entries, layout, written, file_of, holds, judged, read_part, read_parts, finished, kind_in, load_answer}
 use Rattle.machine.specs.Checkpoint.Reading.{reading, faulty}
-use Rattle.record.proofs.Accepted.{ranges-of}
+use Rattle.record.proofs.Accepted.{ranges_of}
 use Rattle.layout.specs.Bytes.{Bytes}
 use Rattle.layout.proofs.Order.{Kind, file_long}
 use Rattle.checkpoint.specs.Moves.{Sized, Moves}
 use Rattle.checkpoint.proofs.Steps.{all}
-use Rattle.checkpoint.proofs.Loaded.{kind_read, loaded-accepted, loaded-written}
-use Rattle.checkpoint.proofs.Back.{device-back, read_back}
+use Rattle.checkpoint.proofs.Loaded.{kind_read, loaded_accepted, loaded_written}
+use Rattle.checkpoint.proofs.Back.{device_back, read_back}
 
 -- the file of a device says its kind
 kind_written : (kind : ℕ) (values : List ℕ) → Kind kind → kind_in (written (layout kind) values) ≡ kind
@@ -34,9 +34,9 @@ kind_written kind values (inr e) = subst (λ (k : ℕ). kind_in (written (layout
 back : (d : Device) → Sized d → accepted d ≡ true → load_answer (file_of d) ≡ passed d
 unfolding load_answer file_of finished
 back d sized ok =
-    let e = kind_written d.kind (values_of d) (ranges-of d ok).kind in
+    let e = kind_written d.kind (values_of d) (ranges_of d ok).kind in
     ap (λ (kind : ℕ). finished kind (all kind (file_of d))) e
-    ∙ (ap (finished d.kind) (read_back d sized ok) ∙ ap passed (device-back d sized))
+    ∙ (ap (finished d.kind) (read_back d sized ok) ∙ ap passed (device_back d sized))
 
 -- a file's answer, by how its reading ends
 record Good (file : List ℕ) (a : Answer) : Type 0 where
@@ -85,8 +85,8 @@ finished_so file (reading values []) e f =
     let kind = kind_in file in
     good refl
     (record {
-      welcome = loaded-accepted kind (kind_read file) file values [] e;
-      only = λ b. loaded-written kind (kind_read file) file values [] e b ∙ append-nil (file_of (device_of kind values));
+      welcome = loaded_accepted kind (kind_read file) file values [] e;
+      only = λ b. loaded_written kind (kind_read file) file values [] e b ∙ append-nil (file_of (device_of kind values));
     })
 
 ends_so : (file : List ℕ) → Ends file (load_answer file)

@@ -39,9 +39,9 @@ judged_by kind (Value place width) n values rest = go (holds kind place (set val
 
 module _ (kind : ℕ) (file : List ℕ) (p : Part) (r : Reading) where
   -- the first fault stays
-  pub step-faulty : (r.code ≡ 0 → ⊥) → state_of file r ≡ read_part kind p (state_of file r)
+  pub step_faulty : (r.code ≡ 0 → ⊥) → state_of file r ≡ read_part kind p (state_of file r)
   unfolding state_of read_part
-  step-faulty f =
+  step_faulty f =
       let e = ne_eqb r.code 0 f in
       let s : state_of file r ≡ faulty r.code = rw e in
       s ∙ ap (read_part kind p) (sym s)
@@ -52,20 +52,20 @@ module _ (kind : ℕ) (file : List ℕ) (p : Part) (r : Reading) where
     goes = rw (eq-eqb r.code 0 e)
 
     -- a file cut short
-    pub step-short : length file - r.at < width_of p
+    pub step_short : length file - r.at < width_of p
         → state_of file (record { code = 15; at = r.at; values = r.values }) ≡ read_part kind p (state_of file r)
     unfolding state_of read_part
-    step-short l =
+    step_short l =
         let t : leb (width_of p) (length (drop r.at file)) ≡ false = lt-leb (width_of p) (length (drop r.at file)) (omega (arith, length-drop r.at file)) in
         let u : read_part kind p (reading r.values (drop r.at file)) ≡ faulty 15 = rw t in
         sym (ap (read_part kind p) goes ∙ u)
 
     -- a part that is whole
-    pub step-whole : width_of p ≤ length file - r.at → (n : ℕ) → n ≡ number_of (take (width_of p) (drop r.at file))
+    pub step_whole : width_of p ≤ length file - r.at → (n : ℕ) → n ≡ number_of (take (width_of p) (drop r.at file))
         → state_of file (record { code = fault_of kind p n (taken_by p n r.values); at = r.at + width_of p; values = taken_by p n r.values })
         ≡ read_part kind p (state_of file r)
     unfolding state_of read_part
-    step-whole l n en =
+    step_whole l n en =
         let t : leb (width_of p) (length (drop r.at file)) ≡ true = le-leb (width_of p) (length (drop r.at file)) (omega (arith, length-drop r.at file)) in
         let u : read_part kind p (reading r.values (drop r.at file))
         ≡ judged kind p (number_of (take (width_of p) (drop r.at file))) r.values (drop (width_of p) (drop r.at file)) = rw t in
@@ -90,10 +90,10 @@ module _ (kind : ℕ) (file : List ℕ) where
   read_first = record { within = omega arith; inside = omega arith; rest = refl }
 
   module _ (k : Kind kind) (r : Reading) (n : ℕ) (w : Halfway kind file r n) where
-    pub read-on : (s : Reading) (p : Part) → n < part_count kind → p ≡ part_at kind n
+    pub read_on : (s : Reading) (p : Part) → n < part_count kind → p ≡ part_at kind n
         → state_of file s ≡ read_part kind p (state_of file r) → s.at ≤ length file → Halfway kind file s (n + 1)
     unfolding read_parts
-    read-on s p h ep es hs =
+    read_on s p h ep es hs =
         record {
           within = omega arith;
           inside = hs;

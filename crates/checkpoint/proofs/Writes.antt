@@ -12,7 +12,7 @@ use Rattle.laws.specs.Rows.{put}
 use Rattle.laws.proofs.Rows.{put_length, put_append, put_all}
 use Rattle.layout.specs.Order.{part_count, part_at, length_of}
 use Rattle.layout.proofs.Bytes.{bytes_length}
-use Rattle.layout.proofs.Order.{Kind, part-is, layout_long, file_long}
+use Rattle.layout.proofs.Order.{Kind, part_is, layout_long, file_long}
 
 -- the parts from the n-th on
 abbrev pub parts_from : ℕ → ℕ → List Part
@@ -22,7 +22,7 @@ pub parts_on : (kind n : ℕ) → Kind kind → n < part_count kind → parts_fr
 parts_on kind n k h =
     let e : suc n ≡ n + 1 = omega arith in
     drop-cons (layout kind) n (Mark 0) (omega (arith, layout_long kind k))
-    ∙ ap₂ (λ (p : Part) (m : ℕ). p ∷ drop m (layout kind)) (sym (part-is kind n k h)) e
+    ∙ ap₂ (λ (p : Part) (m : ℕ). p ∷ drop m (layout kind)) (sym (part_is kind n k h)) e
 
 pub parts_out : (kind n : ℕ) → Kind kind → part_count kind ≤ n → parts_from kind n ≡ []
 parts_out kind n k h =
@@ -36,8 +36,8 @@ pub record Writing (kind : ℕ) (values before now : List ℕ) (n at : ℕ) : Ty
   pub room : at + length (written (parts_from kind n) values) ≡ length before
 
 module _ (kind : ℕ) (values before : List ℕ) (k : Kind kind) where
-  pub write-first : length before ≡ length_of kind → Writing kind values before before 0 0
-  write-first e =
+  pub write_first : length before ≡ length_of kind → Writing kind values before before 0 0
+  write_first e =
       record {
         within = omega arith;
         rest = refl;
@@ -57,14 +57,14 @@ module _ (kind : ℕ) (values before : List ℕ) (k : Kind kind) where
     on h = ap (λ (parts : List Part). written parts values) (parts_on kind n k h)
 
     -- the part's bytes have room
-    pub write-room : n < part_count kind → at + width_of here ≤ length now
-    write-room h =
+    pub write_room : n < part_count kind → at + width_of here ≤ length now
+    write_room h =
         let r = w.room in
         let l = w.long in
         omega (arith, ap length (on h), length-append bytes (written (parts_from kind (n + 1)) values), bytes_length (width_of here) (number_at values here))
 
-    pub write-on : n < part_count kind → Writing kind values before (put bytes at now) (n + 1) (at + width_of here)
-    write-on h =
+    pub write_on : n < part_count kind → Writing kind values before (put bytes at now) (n + 1) (at + width_of here)
+    write_on h =
         let more = written (parts_from kind (n + 1)) values in
         let r = w.room in
         let wide = bytes_length (width_of here) (number_at values here) in
@@ -77,9 +77,9 @@ module _ (kind : ℕ) (values before : List ℕ) (k : Kind kind) where
           room = omega (arith, ap length (on h), length-append bytes more, wide);
         }
 
-    pub write-out : length before ≡ length_of kind → part_count kind ≤ n → now ≡ written (layout kind) values
+    pub write_out : length before ≡ length_of kind → part_count kind ≤ n → now ≡ written (layout kind) values
     unfolding put written
-    write-out e h =
+    write_out e h =
         let none = parts_out kind n k h in
         let r : put [] at now ≡ put (written (layout kind) values) 0 before =
         ap (λ (parts : List Part). put (written parts values) at now) (sym none) ∙ w.rest in

@@ -18,9 +18,9 @@ use Rattle.laws.specs.Ranges.{Timer2Ok}
 use Rattle.laws.proofs.Bits.{bit_set_other, bit_flagged, bit_flagged_other}
 use Rattle.laws.proofs.Counting.{overflow_at}
 use Rattle.machine.proofs.Choices.{chosen, and_two, and_both}
-use Rattle.record.proofs.Accepted.{ranges-of}
+use Rattle.record.proofs.Accepted.{ranges_of}
 use Rattle.cycle.specs.Heard.{overflows_next, sets_tf2, timer2_enabled, HeardAtOnce}
-use Rattle.cycle.proofs.Steps.{cycle-up}
+use Rattle.cycle.proofs.Steps.{cycle_up}
 
 -- Step 3: whether an overflow sets TF2
 
@@ -124,9 +124,9 @@ module _ (d : Device) (a : accepted d ≡ true) (l : ℕ) where
   sets = sets_tf2 d.timer2
 
   -- a choice by whether an overflow set TF2
-  by-sets : (n : ℕ) → cond (eqb tf2 1) 1 n ≡ cond sets 1 n
+  by_sets : (n : ℕ) → cond (eqb tf2 1) 1 n ≡ cond sets 1 n
   unfolding tf2 sets
-  by-sets n = ap (λ (x : ℕ). cond (eqb x 1) 1 n) (tf2_sets d.timer2 fell (ranges-of d a).timer2) ∙ go sets
+  by_sets n = ap (λ (x : ℕ). cond (eqb x 1) 1 n) (tf2_sets d.timer2 fell (ranges_of d a).timer2) ∙ go sets
     where
       go : (b : Bool) → cond (eqb (cond b 1 0) 1) 1 n ≡ cond b 1 n
       go true = refl
@@ -136,7 +136,7 @@ module _ (d : Device) (a : accepted d ≡ true) (l : ℕ) where
   seen = d.interrupts.seen
 
   polls : bit ET2 (flagged ET2 tf2 seen) ≡ cond sets 1 (bit ET2 seen)
-  polls = bit_flagged ET2 tf2 seen ∙ by-sets (bit ET2 seen)
+  polls = bit_flagged ET2 tf2 seen ∙ by_sets (bit ET2 seen)
 
   -- the interrupt controller after the steps
   after : Interrupts
@@ -151,17 +151,17 @@ module _ (d : Device) (a : accepted d ≡ true) (l : ℕ) where
   unfolding after steps counted tf2 fell seen
   silent unseen k h = rw (bit_flagged_other k ET2 tf2 seen h ∙ unseen k h) refl
 
-  steps-heard : powered_down d.pcon ≡ false → HeardAtOnce d (steps d l)
+  steps_heard : powered_down d.pcon ≡ false → HeardAtOnce d (steps d l)
   unfolding steps counted timer2_after fell tf2 sets seen after
-  steps-heard up =
+  steps_heard up =
       record {
         timer2 = polls;
         others = λ k h. bit_flagged_other k ET2 tf2 seen h;
         seen = refl;
-        tf2 = tf2_after d.timer2 fell ∙ by-sets (bit TF2 d.timer2.t2con);
+        tf2 = tf2_after d.timer2 fell ∙ by_sets (bit TF2 d.timer2.t2con);
         asked = asking;
         offers = λ set on unseen free. only_offered d.pcon after up free (asking set on) (silent unseen);
       }
 
 pub heard_at_once : (pins : ℕ) (d : Device) → accepted d ≡ true → powered_down d.pcon ≡ false → HeardAtOnce d (cycle_of pins d)
-heard_at_once pins d a up = rw (cycle-up pins d up) (steps-heard d a (pins_of d.kind pins) up)
+heard_at_once pins d a up = rw (cycle_up pins d up) (steps_heard d a (pins_of d.kind pins) up)

@@ -15,12 +15,12 @@ use Rattle.laws.specs.Ranges.{TimersOk, Timer2Ok, Absent, TicksOk, Ranges}
 use Rattle.laws.proofs.Bits.{bit_below, bit_set, bit_set_other, flagged_lt}
 use Rattle.laws.proofs.Flags.{times_kept}
 use Rattle.machine.proofs.Choices.{chosen}
-use Rattle.machine.proofs.Rollovers.{few-ticks}
+use Rattle.machine.proofs.Rollovers.{few_ticks}
 use Rattle.timers.proofs.Ranges as timers
 use Rattle.timer2.proofs.Ranges as timer2
 use Rattle.serial.proofs.Ranges.{half_within, step_ok, sends_below}
 use Rattle.interrupts.proofs.Ranges.{external_byte, seen_most}
-use Rattle.record.proofs.Accepted.{ranges-of, accepted_of}
+use Rattle.record.proofs.Accepted.{ranges_of, accepted_of}
 
 -- 1 or 0
 falls_bit : (saved : List ℕ) (pins pin : ℕ) → falls saved pins pin ≤ 1
@@ -45,9 +45,9 @@ module _ (d : Device) (r : Ranges d) where
   half_keeps l = half_within d.pcon d.timer2.t2con d.serial _ _ r.serial.half
 
   -- step 2, then steps 6 and 7
-  timers-keep : (l : ℕ) → TimersOk (timers_after d.levels l (counted d l).timers.timers)
+  timers_keep : (l : ℕ) → TimersOk (timers_after d.levels l (counted d l).timers.timers)
   unfolding timers_after externals counted
-  timers-keep l =
+  timers_keep l =
       let k = timers.step_kept d.timers r.timers l in
       record {
         tcon = external_byte IT1 IE1 _ _ _ (lit< tt) (external_byte IT0 IE0 _ _ _ (lit< tt) k.tcon);
@@ -60,9 +60,9 @@ module _ (d : Device) (r : Ranges d) where
         due1 = falls_bit _ _ _;
       }
 
-  timer2-keeps : (l : ℕ) → Timer2Ok (timer2_after d.levels l (counted d l).timer2.timer2)
+  timer2_keeps : (l : ℕ) → Timer2Ok (timer2_after d.levels l (counted d l).timer2.timer2)
   unfolding timer2_after counted
-  timer2-keeps l =
+  timer2_keeps l =
       let k = timer2.step_kept d.timer2 (falls d.levels l T2EX) r.timer2 in
       record {
         t2con = k.t2con;
@@ -74,38 +74,38 @@ module _ (d : Device) (r : Ranges d) where
       }
 
   -- on kind 51 Timer 2 stands still
-  absent-keeps : (pins : ℕ) → d.kind ≡ 51
+  absent_keeps : (pins : ℕ) → d.kind ≡ 51
       → Absent (timer2_after d.levels (pins_of d.kind pins) (counted d (pins_of d.kind pins)).timer2.timer2)
   unfolding timer2_after counted
-  absent-keeps pins e =
+  absent_keeps pins e =
       let a = r.absent e in
       let high : falls d.levels (pins_of d.kind pins) T2 ≡ 0 = rw e (falls_not d.levels (pins_of 51 pins) T2 (takes_t2 pins)) in
       rw (timer2.step_still d.timer2 _ a.t2con, high ∙ sym a.due2) a
 
   -- step 1
-  polled-keeps : (l : ℕ) → flagged ET2 (counted d l).timer2.tf2 d.interrupts.seen ≤ 63
-  polled-keeps l =
+  polled_keeps : (l : ℕ) → flagged ET2 (counted d l).timer2.tf2 d.interrupts.seen ≤ 63
+  polled_keeps l =
       le-pred_of_lt (flagged_lt 6 ET2 (counted d l).timer2.tf2 d.interrupts.seen (lit< tt) (omega (arith, r.interrupts.seen)))
 
-  levels-keep : (l : ℕ) → levels_ok (levels_of l) ≡ true
+  levels_keep : (l : ℕ) → levels_ok (levels_of l) ≡ true
   unfolding levels_of
-  levels-keep l =
+  levels_keep l =
       simp (low 0, low 1, low 2, low 3, low 4, low 5, low 6)
     where
       low : (k : ℕ) → leb (bit k l) 1 ≡ true
       low k = le-leb (bit k l) 1 (le-pred_of_lt (bit_below k l))
 
-  steps-ranges : (pins : ℕ) → Ranges (steps d (pins_of d.kind pins))
+  steps_ranges : (pins : ℕ) → Ranges (steps d (pins_of d.kind pins))
   unfolding steps
-  steps-ranges pins =
+  steps_ranges pins =
       let l = pins_of d.kind pins in
       record {
         kind = r.kind;
         pcon = r.pcon;
         pcon_bits = r.pcon_bits;
-        timers = timers-keep l;
-        timer2 = timer2-keeps l;
-        absent = absent-keeps pins;
+        timers = timers_keep l;
+        timer2 = timer2_keeps l;
+        absent = absent_keeps pins;
         serial = step_ok _ (bit RXD l) d.serial (half_keeps l) (le-pred_of_lt (bit_below RXD l)) r.serial;
         interrupts =
             record {
@@ -114,27 +114,27 @@ module _ (d : Device) (r : Ranges d) where
               ip = r.interrupts.ip;
               ip_bits = r.interrupts.ip_bits;
               seen = seen_most _ _ _;
-              polled = polled-keeps l;
+              polled = polled_keeps l;
               low = r.interrupts.low;
               high = r.interrupts.high;
             };
-        levels = levels-keep l;
+        levels = levels_keep l;
         cycle = mod-lt (d.cycle + 1) (omega arith);
         times = times_kept _ _ d.times (mod-lt (d.cycle + 1) (omega arith)) r.times;
       }
 
-  pub cycle-ranges : (pins : ℕ) → Ranges (cycle_of pins d)
+  pub cycle_ranges : (pins : ℕ) → Ranges (cycle_of pins d)
   unfolding cycle_of
-  cycle-ranges pins = chosen Ranges (powered_down d.pcon) d (steps d (pins_of d.kind pins)) r (steps-ranges pins)
+  cycle_ranges pins = chosen Ranges (powered_down d.pcon) d (steps d (pins_of d.kind pins)) r (steps_ranges pins)
 
 -- at most six ticks come in a cycle of an accepted device, by the law of the machine
 pub ticks_ok : (d : Device) → accepted d ≡ true → (l : ℕ) {c : Counted} {k : Ticks} → c ≡ counted d l → k ≡ ticks_in d c → TicksOk k
-ticks_ok d a l e f = rw (f, e) (record { send = (few-ticks d a l).send; half = half_keeps d (ranges-of d a) l })
+ticks_ok d a l e f = rw (f, e) (record { send = (few_ticks d a l).send; half = half_keeps d (ranges_of d a) l })
 
 -- a cycle keeps an accepted device accepted
 pub cycle_accepted : (pins : ℕ) (d : Device) → accepted d ≡ true → accepted (cycle_of pins d) ≡ true
-cycle_accepted pins d a = accepted_of (cycle_of pins d) (cycle-ranges d (ranges-of d a) pins)
+cycle_accepted pins d a = accepted_of (cycle_of pins d) (cycle_ranges d (ranges_of d a) pins)
 
 -- the send position of an accepted device
 pub sends_within : (d : Device) → accepted d ≡ true → d.serial.send.position ≤ 11
-sends_within d a = sends_below d.serial (ranges-of d a).serial
+sends_within d a = sends_below d.serial (ranges_of d a).serial

@@ -46,7 +46,7 @@ abbrev pub times_after_lem : Device → ℕ → ℕ → ℕ → ℕ → FlagTime
 times_after_lem d number tcon scon t2con = times_after number (risen (flags d) (flags_of tcon scon t2con)) d.times
 
 module _ (d : Device) (l : ℕ) {rxd polled seen number : ℕ} {c : Counted} {k : Ticks} {s : Serial} {t : Timers} {u : Timer2} {now : List ℕ} {times : FlagTimes} where
-  pub steps-are : c ≡ counted d l
+  pub steps_are : c ≡ counted d l
       → k ≡ ticks_in d c
       → rxd ≡ bit RXD l
       → s ≡ serial_step k rxd d.serial
@@ -59,15 +59,15 @@ module _ (d : Device) (l : ℕ) {rxd polled seen number : ℕ} {c : Counted} {k 
       → times ≡ times_after_lem d number t.tcon s.scon u.t2con
       → with_all d t u s seen polled now number times ≡ steps d l
   unfolding steps
-  steps-are ec ek er es et eu ep en eo em ef = rw (ef, ep, en, et, eu, es, eo, em, er, ek, ec)
+  steps_are ec ek er es et eu ep en eo em ef = rw (ef, ep, en, et, eu, es, eo, em, er, ek, ec)
 
 module _ (pins : ℕ) (d : Device) where
   -- out of power-down
-  pub cycle-up : powered_down d.pcon ≡ false → cycle_of pins d ≡ steps d (pins_of d.kind pins)
+  pub cycle_up : powered_down d.pcon ≡ false → cycle_of pins d ≡ steps d (pins_of d.kind pins)
   unfolding cycle_of
-  cycle-up f = rw f
+  cycle_up f = rw f
 
   -- with the pin byte as the kind takes it, the cycle is that of the pin byte which is given
-  pub cycle-reaches : powered_down d.pcon ≡ false → {l : ℕ} {u : Device} → l ≡ pins_of d.kind pins → u ≡ steps d l
+  pub cycle_reaches : powered_down d.pcon ≡ false → {l : ℕ} {u : Device} → l ≡ pins_of d.kind pins → u ≡ steps d l
       → u ≡ cycle_of pins d
-  cycle-reaches f e g = g ∙ (ap (steps d) e ∙ sym (cycle-up f))
+  cycle_reaches f e g = g ∙ (ap (steps d) e ∙ sym (cycle_up f))

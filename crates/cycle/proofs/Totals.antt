@@ -7,29 +7,29 @@ use Rattle.machine.specs.Record.{pins_of}
 use Rattle.machine.specs.Cycle.{falls, counted, overflows_of}
 use Rattle.machine.specs.Totals.{no_totals, by_timer, totals_next, Within}
 use Rattle.machine.proofs.Choices.{chosen}
-use Rattle.machine.proofs.Overflowing.{timer0_once, timer1_once, timer2-few}
+use Rattle.machine.proofs.Overflowing.{timer0_once, timer1_once, timer2_few}
 use Rattle.laws.specs.Ranges.{Ranges}
-use Rattle.timers.proofs.Ranges.{high-once}
+use Rattle.timers.proofs.Ranges.{high_once}
 
 module _ (d : Device) (r : Ranges d) where
-  pub counted-within : (l : ℕ) → Within 1 (by_timer (overflows_of (counted d l)))
+  pub counted_within : (l : ℕ) → Within 1 (by_timer (overflows_of (counted d l)))
   unfolding counted
-  counted-within l =
+  counted_within l =
       let low = timer0_once d.timers l r.timers.tl0 r.timers.th0 in
-      let high = high-once d.timers r.timers l in
+      let high = high_once d.timers r.timers l in
       let u = r.timer2 in
       record {
         timer0 = omega arith;
         timer1 = timer1_once d.timers l r.timers.tl1 r.timers.th1;
         timer2 =
-            timer2-few d.timer2 (omega (arith, u.tl2, u.th2)) (falls d.levels l T2EX) (omega (arith, u.rcap2l, u.rcap2h));
+            timer2_few d.timer2 (omega (arith, u.tl2, u.th2)) (falls d.levels l T2EX) (omega (arith, u.rcap2l, u.rcap2h));
       }
 
-  pub next-within : (pins : ℕ) → Within 1 (totals_next pins d)
+  pub next_within : (pins : ℕ) → Within 1 (totals_next pins d)
   unfolding totals_next
-  next-within pins =
+  next_within pins =
       chosen (Within 1) (powered_down d.pcon) no_totals _ (record { timer0 = lit≤ tt; timer1 = lit≤ tt; timer2 = lit≤ tt })
-      (counted-within (pins_of d.kind pins))
+      (counted_within (pins_of d.kind pins))
 
 -- out of power-down
 pub totals_up : (pins : ℕ) (d : Device) → powered_down d.pcon ≡ false

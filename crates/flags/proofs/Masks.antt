@@ -75,25 +75,25 @@ module _ (before after : ℕ) (byte : before ≤ 255) where
   below : risen before after < 256
   below = omega (arith, and_le_l (255 - before) after)
 
-  pub tcon-rises : not (eqb (bit_and (risen before after) 0xaa) 0)
+  pub tcon_rises : not (eqb (bit_and (risen before after) 0xaa) 0)
       ≡ (up TF0 before after || (up TF1 before after || (up IE0 before after || up IE1 before after)))
   unfolding in_tcon same
-  tcon-rises =
+  tcon_rises =
       same_is _ _ (at in_tcon 256 tt (risen before after) below)
       ∙ (λ i.
       risen_bit TF0 before after (lit< tt) f i
       || (risen_bit TF1 before after (lit< tt) f i
       || (risen_bit IE0 before after (lit< tt) f i || risen_bit IE1 before after (lit< tt) f i)))
 
-  pub scon-rises : not (eqb (bit_and (risen before after) 0x03) 0) ≡ (up RI before after || up TI before after)
+  pub scon_rises : not (eqb (bit_and (risen before after) 0x03) 0) ≡ (up RI before after || up TI before after)
   unfolding in_scon same
-  scon-rises =
+  scon_rises =
       same_is _ _ (at in_scon 256 tt (risen before after) below)
       ∙ (λ i. risen_bit RI before after (lit< tt) f i || risen_bit TI before after (lit< tt) f i)
 
-  pub t2con-rises : not (eqb (bit_and (risen before after) 0xc0) 0) ≡ (up TF2 before after || up EXF2 before after)
+  pub t2con_rises : not (eqb (bit_and (risen before after) 0xc0) 0) ≡ (up TF2 before after || up EXF2 before after)
   unfolding in_t2con same
-  t2con-rises =
+  t2con_rises =
       same_is _ _ (at in_t2con 256 tt (risen before after) below)
       ∙ (λ i. risen_bit TF2 before after (lit< tt) f i || risen_bit EXF2 before after (lit< tt) f i)
 
@@ -120,8 +120,8 @@ module _ (tcon0 scon0 t2con0 tcon1 scon1 t2con1 : ℕ) where
   abbrev t2con : ℕ → Bool
   t2con k = rose (bit k t2con0) (bit k t2con1)
 
-  pub flags-rise :
+  pub flags_rise :
       (((tcon TF0 || (tcon TF1 || (tcon IE0 || tcon IE1))) || (scon RI || scon TI)) || (t2con TF2 || t2con EXF2))
       ≡ any_rises (flags_of tcon0 scon0 t2con0) (flags_of tcon1 scon1 t2con1)
   unfolding any_rises rises
-  flags-rise = in_order (tcon TF0) (tcon TF1) (tcon IE0) (tcon IE1) (scon RI) (scon TI) (t2con TF2) (t2con EXF2)
+  flags_rise = in_order (tcon TF0) (tcon TF1) (tcon IE0) (tcon IE1) (scon RI) (scon TI) (t2con TF2) (t2con EXF2)

@@ -113,16 +113,16 @@ number_some none o = refl
 number_some (source k) o = lt-ltb k 6 o
 
 module _ (pcon : ℕ) (i : Interrupts) where
-  offered-one : One (offered pcon i)
+  offered_one : One (offered pcon i)
   unfolding offered One
-  offered-one = chosen One (powered_down pcon) none (choice i) tt (choice_one i)
+  offered_one = chosen One (powered_down pcon) none (choice i) tt (choice_one i)
 
-  pub offered-below : number_of (offered pcon i) < 6 → offered pcon i ≡ source (number_of (offered pcon i))
-  offered-below = number_source (offered pcon i)
+  pub offered_below : number_of (offered pcon i) < 6 → offered pcon i ≡ source (number_of (offered pcon i))
+  offered_below = number_source (offered pcon i)
 
-  pub offered-none : 6 ≤ number_of (offered pcon i) → offered pcon i ≡ none
-  offered-none = number_none (offered pcon i) offered-one
+  pub offered_none : 6 ≤ number_of (offered pcon i) → offered pcon i ≡ none
+  offered_none = number_none (offered pcon i) offered_one
 
   -- an interrupt is offered
-  pub offers-below : ltb (number_of (offered pcon i)) 6 ≡ offers pcon i
-  offers-below = number_some (offered pcon i) offered-one
+  pub offers_below : ltb (number_of (offered pcon i)) 6 ≡ offers pcon i
+  offers_below = number_some (offered pcon i) offered_one

@@ -25,19 +25,19 @@ use Rattle.interval.proofs.Pulses.{pulses_within, pulses_all_each}
 -- A counter
 
 module _ (k : Counter) (w : Within k) where
-  within-reads : (h l n : ℕ) → h ≤ 1 → l ≤ 1 → n ≤ most k.bcd → Within (reads h l n k)
+  within_reads : (h l n : ℕ) → h ≤ 1 → l ≤ 1 → n ≤ most k.bcd → Within (reads h l n k)
   unfolding reads
-  within-reads h l n p q r =
+  within_reads h l n p q r =
       record { set = w.set; levels = w.levels; counts = w.counts; begun = w.begun; reads = record { high = p; latched = q; latch = r } }
 
-  within-begun : (byte : ℕ) → byte ≤ 255 → Within (begun byte k)
+  within_begun : (byte : ℕ) → byte ≤ 255 → Within (begun byte k)
   unfolding begun
-  within-begun byte h =
+  within_begun byte h =
       record { set = w.set; levels = w.levels; counts = w.counts; begun = record { first = omega arith; low = h }; reads = w.reads }
 
-  within-complete : (n : ℕ) → n ≤ most k.bcd → Within (complete n k)
+  within_complete : (n : ℕ) → n ≤ most k.bcd → Within (complete n k)
   unfolding complete
-  within-complete n h =
+  within_complete n h =
       let c = w.counts in
       let output = chosen (λ (o : ℕ). o ≤ 1) (eqb k.mode 0) _ _ zero-le w.levels.output in
       record {
@@ -48,13 +48,13 @@ module _ (k : Counter) (w : Within k) where
         reads = w.reads;
       }
 
-  within-latch : Within (latch_now k)
+  within_latch : Within (latch_now k)
   unfolding latch_now
-  within-latch = chosen Within (eqb k.latched 1) _ _ w (within-reads k.high 1 k.count w.reads.high (omega arith) w.counts.count)
+  within_latch = chosen Within (eqb k.latched 1) _ _ w (within_reads k.high 1 k.count w.reads.high (omega arith) w.counts.count)
 
-  within-fresh : (b : Bool) (bcd format : ℕ) → bcd ≤ 1 → format_ok format ≡ true → Within (fresh (cond b 0 2) bcd format k.gate)
+  within_fresh : (b : Bool) (bcd format : ℕ) → bcd ≤ 1 → format_ok format ≡ true → Within (fresh (cond b 0 2) bcd format k.gate)
   unfolding fresh
-  within-fresh b bcd format h f =
+  within_fresh b bcd format h f =
       let output = chosen (λ (o : ℕ). o ≤ 1) (eqb (cond b 0 2) 0) 0 1 zero-le (omega arith) in
       record {
         set = record { mode = chosen (λ (m : ℕ). mode_ok m ≡ true) b 0 2 refl refl; format = f; bcd = h };
@@ -64,12 +64,12 @@ module _ (k : Counter) (w : Within k) where
         reads = record { high = zero-le; latched = zero-le; latch = zero-le };
       }
 
-  within-control : (word : ℕ) → Within (control word k).counter
+  within_control : (word : ℕ) → Within (control word k).counter
   unfolding control
-  within-control word =
-      cond_has (λ (r : CounterAnswer). Within r.counter) (eqb (format_in word) LATCH) _ _ (λ t. within-latch)
+  within_control word =
+      cond_has (λ (r : CounterAnswer). Within r.counter) (eqb (format_in word) LATCH) _ _ (λ t. within_latch)
       (λ t. chosen (λ (r : CounterAnswer). Within r.counter) (is_mode0 word || is_mode2 word) _ _
-      (within-fresh (is_mode0 word) (bit BCD word) (format_in word) (omega arith) (format t)) w)
+      (within_fresh (is_mode0 word) (bit BCD word) (format_in word) (omega arith) (format t)) w)
     where
       positive : (n : ℕ) → (n ≡ 0 → ⊥) → 1 ≤ n
       positive n z = omega arith
@@ -86,25 +86,25 @@ module _ (k : Counter) (w : Within k) where
       chosen (λ (n : ℕ). n ≤ 65535) (eqb k.format 1) _ _ (omega arith)
       (chosen (λ (n : ℕ). n ≤ 65535) (eqb k.format 2) _ _ (omega arith) (omega arith))
 
-  number-le : (v : ℕ) → v ≤ 65535 → bad_count v k ≡ false → number_of k.bcd v ≤ most k.bcd
+  number_le : (v : ℕ) → v ≤ 65535 → bad_count v k ≡ false → number_of k.bcd v ≤ most k.bcd
   unfolding number_of most bad_count
-  number-le v h e =
+  number_le v h e =
       by_test (eqb k.bcd 1)
       (λ t. simp t (decimal_le v (not-false (digits_ok v) (simp t at (or_left (eqb k.bcd 1 && not (digits_ok v)) _ e)))))
       (λ t. simp t h)
 
-  within-write : (byte : ℕ) → byte ≤ 255 → Within (write_byte byte k).counter
+  within_write : (byte : ℕ) → byte ≤ 255 → Within (write_byte byte k).counter
   unfolding write_byte
-  within-write byte h =
-      chosen (λ (r : CounterAnswer). Within r.counter) (low_first k) _ _ (within-begun byte h)
+  within_write byte h =
+      chosen (λ (r : CounterAnswer). Within r.counter) (low_first k) _ _ (within_begun byte h)
       (cond_has (λ (r : CounterAnswer). Within r.counter) (bad_count (whole byte k) k) _ _ (λ t. w)
-      (λ t. within-complete (number_of k.bcd (whole byte k)) (number-le (whole byte k) (whole_le byte h) t)))
+      (λ t. within_complete (number_of k.bcd (whole byte k)) (number_le (whole byte k) (whole_le byte h) t)))
 
-  within-read : Within (read_byte k).counter
+  within_read : Within (read_byte k).counter
   unfolding read_byte
-  within-read =
+  within_read =
       chosen Within (high_next k) _ _
-      (within-reads 1 k.latched k.latch (omega arith) w.reads.latched w.reads.latch) (within-reads 0 0 0 zero-le zero-le zero-le)
+      (within_reads 1 k.latched k.latch (omega arith) w.reads.latched w.reads.latch) (within_reads 0 0 0 zero-le zero-le zero-le)
 
 -- The chip
 
@@ -133,8 +133,8 @@ write_kept c address byte h e =
     (chosen Kept (leb address 3) _ _
     (chosen Kept (eqb address 3) _ _
     (chosen Kept (ltb (choice_in byte) 3) _ _
-    (kept_answered (choice_in byte) _ c e (within-control (counter_at (choice_in byte) c) (within_of _ (ok_at (choice_in byte) c e)) byte)) e)
-    (kept_answered address _ c e (within-write (counter_at address c) (within_of _ (ok_at address c e)) byte h)))
+    (kept_answered (choice_in byte) _ c e (within_control (counter_at (choice_in byte) c) (within_of _ (ok_at (choice_in byte) c e)) byte)) e)
+    (kept_answered address _ c e (within_write (counter_at address c) (within_of _ (ok_at address c e)) byte h)))
     e)
     e
 
@@ -143,7 +143,7 @@ unfolding read_answer
 read_kept c address e =
     chosen (λ (r : ReadAnswer). accepted r.interval ≡ true) (accepted c) _ _
     (chosen (λ (r : ReadAnswer). accepted r.interval ≡ true) (ltb address 3) _ _
-    (kept_put address _ c e (within-read (counter_at address c) (within_of _ (ok_at address c e)))) e)
+    (kept_put address _ c e (within_read (counter_at address c) (within_of _ (ok_at address c e)))) e)
     e
 
 pub pulses_kept : (n gates : ℕ) (c : Interval) → accepted c ≡ true → accepted (pulses_all n gates c) ≡ true

@@ -15,14 +15,14 @@ use Rattle.interval.proofs.Ranges.{Within}
 use Rattle.interval.proofs.Counts.{below_le}
 
 module _ (k : Counter) (w : Within k) where
-  within-gate : (g : ℕ) → g ≤ 1 → Within (with_gate g k)
+  within_gate : (g : ℕ) → g ≤ 1 → Within (with_gate g k)
   unfolding with_gate
-  within-gate g h =
+  within_gate g h =
       record { set = w.set; levels = record { output = w.levels.output; gate = h }; counts = w.counts; begun = w.begun; reads = w.reads }
 
-  within-stands : (n o : ℕ) → n ≤ most k.bcd → o ≤ 1 → Within (stands n o k)
+  within_stands : (n o : ℕ) → n ≤ most k.bcd → o ≤ 1 → Within (stands n o k)
   unfolding stands
-  within-stands n o h l =
+  within_stands n o h l =
       let c = w.counts in
       record {
         set = w.set;
@@ -32,9 +32,9 @@ module _ (k : Counter) (w : Within k) where
         reads = w.reads;
       }
 
-  within-load : (n o : ℕ) → n ≤ most k.bcd → o ≤ 1 → Within (load n o k)
+  within_load : (n o : ℕ) → n ≤ most k.bcd → o ≤ 1 → Within (load n o k)
   unfolding load
-  within-load n o h l =
+  within_load n o h l =
       record {
         set = w.set;
         levels = record { output = l; gate = w.levels.gate };
@@ -43,9 +43,9 @@ module _ (k : Counter) (w : Within k) where
         reads = w.reads;
       }
 
-  pub again-le : again k ≤ most k.bcd
+  pub again_le : again k ≤ most k.bcd
   unfolding again
-  again-le = chosen (λ (n : ℕ). n ≤ most k.bcd) (eqb k.waits 1) _ _ w.counts.waiting w.counts.reload
+  again_le = chosen (λ (n : ℕ). n ≤ most k.bcd) (eqb k.waits 1) _ _ w.counts.waiting w.counts.reload
 
   below : one_below (most k.bcd) k.count ≤ most k.bcd
   below = below_le (most k.bcd) k.count w.counts.count
@@ -53,13 +53,13 @@ module _ (k : Counter) (w : Within k) where
   level : (b : Bool) (x : ℕ) → x ≤ 1 → cond b x k.output ≤ 1
   level b x h = chosen (λ (o : ℕ). o ≤ 1) b _ _ h w.levels.output
 
-  within-down0 : Within (down0 k)
+  within_down0 : Within (down0 k)
   unfolding down0
-  within-down0 = within-stands _ _ below (level (eqb (one_below (most k.bcd) k.count) 0) 1 (omega arith))
+  within_down0 = within_stands _ _ below (level (eqb (one_below (most k.bcd) k.count) 0) 1 (omega arith))
 
-  within-down2 : Within (down2 k)
+  within_down2 : Within (down2 k)
   unfolding down2
-  within-down2 = within-stands _ _ below (level (eqb (one_below (most k.bcd) k.count) 1) 0 zero-le)
+  within_down2 = within_stands _ _ below (level (eqb (one_below (most k.bcd) k.count) 1) 0 zero-le)
 
 -- what holds after a pulse, and stays while the gate stays
 pub record Ready (g : ℕ) (k : Counter) : Type 0 where
@@ -83,11 +83,11 @@ record Mode2 (k : Counter) : Type 0 where
 module _ (g : ℕ) (k : Counter) (w : Within k) where
   loads0 : eqb k.mode 0 ≡ true → Mode0 (load k.waiting k.output k)
   unfolding load
-  loads0 m = record { within = within-load k w k.waiting k.output w.counts.waiting w.levels.output; mode = m; none = refl }
+  loads0 m = record { within = within_load k w k.waiting k.output w.counts.waiting w.levels.output; mode = m; none = refl }
 
   downs0 : eqb k.mode 0 ≡ true → eqb k.waits 1 ≡ false → Mode0 (down0 k)
   unfolding down0 stands
-  downs0 m n = record { within = within-down0 k w; mode = m; none = n }
+  downs0 m n = record { within = within_down0 k w; mode = m; none = n }
 
   after0 : eqb k.mode 0 ≡ true → Mode0 (pulse0 g k)
   unfolding pulse0
@@ -97,40 +97,40 @@ module _ (g : ℕ) (k : Counter) (w : Within k) where
 
   loads2 : (n o : ℕ) → n ≤ most k.bcd → o ≤ 1 → eqb k.mode 0 ≡ false → Mode2 (load n o k)
   unfolding load
-  loads2 n o h l m = record { within = within-load k w n o h l; mode = m; none = λ e. refl }
+  loads2 n o h l m = record { within = within_load k w n o h l; mode = m; none = λ e. refl }
 
   downs2 : eqb k.mode 0 ≡ false → eqb k.loaded 1 ≡ true → Mode2 (down2 k)
   unfolding down2 stands
-  downs2 m t = record { within = within-down2 k w; mode = m; none = λ e. absurd (clash t e) }
+  downs2 m t = record { within = within_down2 k w; mode = m; none = λ e. absurd (clash t e) }
 
   forces2 : eqb k.mode 0 ≡ false → eqb k.loaded 1 ≡ true → Mode2 (stands k.count 1 k)
   unfolding stands
   forces2 m t =
-      record { within = within-stands k w k.count 1 w.counts.count (omega arith); mode = m; none = λ e. absurd (clash t e) }
+      record { within = within_stands k w k.count 1 w.counts.count (omega arith); mode = m; none = λ e. absurd (clash t e) }
 
   after2 : eqb k.mode 0 ≡ false → Mode2 (pulse2 g k)
   unfolding pulse2
   after2 m =
       cond_has Mode2 (eqb k.loaded 1) _ _
       (λ t. chosen Mode2 (eqb g 1) _ _
-      (chosen Mode2 (reloads g k) _ _ (loads2 (again k) 1 (again-le k w) (omega arith) m) (downs2 m t)) (forces2 m t))
+      (chosen Mode2 (reloads g k) _ _ (loads2 (again k) 1 (again_le k w) (omega arith) m) (downs2 m t)) (forces2 m t))
       (λ t. cond_has Mode2 (eqb k.waits 1) _ _ (λ y. loads2 k.waiting k.output w.counts.waiting w.levels.output m)
       (λ y. record { within = w; mode = m; none = λ e. y }))
 
   gated0 : (j : Counter) → g ≤ 1 → Mode0 j → Ready g (with_gate g j)
   unfolding with_gate
   gated0 j h p =
-      record { within = within-gate j p.within g h; gate = refl; none0 = λ e. p.none; none2 = λ e f. absurd (clash p.mode e) }
+      record { within = within_gate j p.within g h; gate = refl; none0 = λ e. p.none; none2 = λ e f. absurd (clash p.mode e) }
 
   gated2 : (j : Counter) → g ≤ 1 → Mode2 j → Ready g (with_gate g j)
   unfolding with_gate
   gated2 j h p =
-      record { within = within-gate j p.within g h; gate = refl; none0 = λ e. absurd (clash e p.mode); none2 = λ e f. p.none f }
+      record { within = within_gate j p.within g h; gate = refl; none0 = λ e. absurd (clash e p.mode); none2 = λ e f. p.none f }
 
   -- a pulse leaves a counter ready
-  pub pulse-ready : g ≤ 1 → Ready g (pulse g k)
+  pub pulse_ready : g ≤ 1 → Ready g (pulse g k)
   unfolding pulse
-  pulse-ready h =
+  pulse_ready h =
       cond_has (λ (j : Counter). Ready g (with_gate g j)) (eqb k.mode 0) _ _ (λ m. gated0 (pulse0 g k) h (after0 m))
       (λ m. gated2 (pulse2 g k) h (after2 m))
 
@@ -138,7 +138,7 @@ module _ (g : ℕ) (k : Counter) (w : Within k) where
 pub pulses_within : (n g : ℕ) (k : Counter) → g ≤ 1 → Within k → Within (pulses n g k)
 unfolding pulses
 pulses_within zero g k h w = w
-pulses_within (suc n) g k h w = pulses_within n g (pulse g k) h (pulse-ready g k w h).within
+pulses_within (suc n) g k h w = pulses_within n g (pulse g k) h (pulse_ready g k w h).within
 
 -- n pulses of the chip are n pulses of each counter
 pub pulses_all_each : (n gates : ℕ) (c : Interval)

@@ -24,38 +24,38 @@ module _ (c : Interval) where
   abbrev SamePulse : PulseAnswer → Type 0
   SamePulse a = (a.code ≡ 0 → ⊥) → (a.outputs ≡ 0) × (a.interval ≡ c)
 
-  answered-refused : (i : ℕ) (r : CounterAnswer) → SameWrite (answered i r c)
+  answered_refused : (i : ℕ) (r : CounterAnswer) → SameWrite (answered i r c)
   unfolding answered
-  answered-refused i r = chosen SameWrite (eqb r.code 0) _ _ (λ n. absurd (n refl)) (λ _. refl)
+  answered_refused i r = chosen SameWrite (eqb r.code 0) _ _ (λ n. absurd (n refl)) (λ _. refl)
 
-  pub write-refused : (address byte : ℕ) → SameWrite (write_answer c address byte)
+  pub write_refused : (address byte : ℕ) → SameWrite (write_answer c address byte)
   unfolding write_answer control_answer
-  write-refused address byte =
+  write_refused address byte =
       chosen SameWrite (accepted c) _ _
       (chosen SameWrite (leb address 3) _ _
       (chosen SameWrite (eqb address 3) _ _
-      (chosen SameWrite (ltb (choice_in byte) 3) _ _ (answered-refused (choice_in byte) _) (λ _. refl))
-      (answered-refused address _))
+      (chosen SameWrite (ltb (choice_in byte) 3) _ _ (answered_refused (choice_in byte) _) (λ _. refl))
+      (answered_refused address _))
       (λ _. refl))
       (λ _. refl)
 
-  pub read-refused : (address : ℕ) → SameRead (read_answer c address)
+  pub read_refused : (address : ℕ) → SameRead (read_answer c address)
   unfolding read_answer
-  read-refused address =
+  read_refused address =
       chosen SameRead (accepted c) _ _
       (chosen SameRead (ltb address 3) _ _ (λ n. absurd (n refl)) (λ _. (refl, refl)))
       (λ _. (refl, refl))
 
-  pub pulse-refused : (gates : ℕ) → SamePulse (pulse_answer c gates)
+  pub pulse_refused : (gates : ℕ) → SamePulse (pulse_answer c gates)
   unfolding pulse_answer
-  pulse-refused gates =
+  pulse_refused gates =
       chosen SamePulse (accepted c) _ _
       (chosen SamePulse (gates_ok gates) _ _ (λ n. absurd (n refl)) (λ _. (refl, refl)))
       (λ _. (refl, refl))
 
-  pub jump-refused : (gates n : ℕ) → SamePulse (jump_answer c gates n)
+  pub jump_refused : (gates n : ℕ) → SamePulse (jump_answer c gates n)
   unfolding jump_answer
-  jump-refused gates n =
+  jump_refused gates n =
       chosen SamePulse (accepted c) _ _
       (chosen SamePulse (gates_ok gates) _ _
       (chosen SamePulse (leb n longest) _ _ (λ n. absurd (n refl)) (λ _. (refl, refl)))

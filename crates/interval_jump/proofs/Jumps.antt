@@ -12,7 +12,7 @@ use Rattle.interval.specs.Count.{most, one_below}
 use Rattle.interval.specs.Counter.{with_gate, stands, load, counts0, down0, pulse0, down2, again, reloads, pulse2, pulse, pulses}
 use Rattle.interval.proofs.Ranges.{Within}
 use Rattle.interval.proofs.Counts.{below_zero, below_suc, below_le, most_least}
-use Rattle.interval.proofs.Pulses.{Ready, pulse-ready, again-le}
+use Rattle.interval.proofs.Pulses.{Ready, pulse_ready, again_le}
 use Rattle.interval_jump.specs.Jump.{down_by, left, after0, within2, after2, steady}
 use Rattle.interval_jump.proofs.Down.{down_none, down_more, rises, falls}
 
@@ -88,24 +88,24 @@ module _ (k : Counter) (r : Runs k) where
   reloaded : Counter
   reloaded = load (again k) 1 k
 
-  low-gate : eqb k.gate 0 ≡ false
-  low-gate = ne_eqb k.gate 0 (λ z. omega (arith, r.gate))
+  low_gate : eqb k.gate 0 ≡ false
+  low_gate = ne_eqb k.gate 0 (λ z. omega (arith, r.gate))
 
-  reload-step : eqb k.count 1 ≡ true → pulse 1 k ≡ reloaded
+  reload_step : eqb k.count 1 ≡ true → pulse 1 k ≡ reloaded
   unfolding pulse pulse2 reloads reloaded load
-  reload-step t = simp (r.mode, r.loaded, low-gate, t) (gated 1 (load (again k) 1 k) r.gate)
+  reload_step t = simp (r.mode, r.loaded, low_gate, t) (gated 1 (load (again k) 1 k) r.gate)
 
   down_step : eqb k.count 1 ≡ false → pulse 1 k ≡ stands (left k) (cond (eqb (left k) 1) 0 k.output) k
   unfolding pulse pulse2 reloads down2 stands left
-  down_step t = simp (r.mode, r.loaded, low-gate, t) (gated 1 (stands _ _ k) r.gate)
+  down_step t = simp (r.mode, r.loaded, low_gate, t) (gated 1 (stands _ _ k) r.gate)
 
-  runs-reloaded : Runs reloaded
+  runs_reloaded : Runs reloaded
   unfolding reloaded load again
-  runs-reloaded = record { mode = r.mode; loaded = refl; gate = r.gate; count = r.again; again = r.again }
+  runs_reloaded = record { mode = r.mode; loaded = refl; gate = r.gate; count = r.again; again = r.again }
 
-  runs-down : (o : ℕ) → Runs (stands (left k) o k)
+  runs_down : (o : ℕ) → Runs (stands (left k) o k)
   unfolding stands again left
-  runs-down o =
+  runs_down o =
       record {
         mode = r.mode;
         loaded = r.loaded;
@@ -191,8 +191,8 @@ unfolding pulses next
 counted2 zero k r = sym (none2 k r)
 counted2 (suc n) k r =
     by_test (eqb k.count 1)
-    (λ t. ap (pulses n 1) (reload-step k r t) ∙ counted2 n (reloaded k r) (runs-reloaded k r) ∙ laps k r n t)
-    (λ t. ap (pulses n 1) (down_step k r t) ∙ counted2 n (next k r n t) (runs-down k r _) ∙ shorter k r n t)
+    (λ t. ap (pulses n 1) (reload_step k r t) ∙ counted2 n (reloaded k r) (runs_reloaded k r) ∙ laps k r n t)
+    (λ t. ap (pulses n 1) (down_step k r t) ∙ counted2 n (next k r n t) (runs_down k r _) ∙ shorter k r n t)
 
 -- Mode 2, the gate low, and before the first load
 
@@ -201,15 +201,15 @@ module _ (g : ℕ) (k : Counter) (m : eqb k.mode 0 ≡ false) (e : k.gate ≡ g)
   unfolding pulse pulse2
   waits2 l w = simp (m, l, w) (gated g k e)
 
-  forced-step : eqb k.loaded 1 ≡ true → eqb g 1 ≡ false → (o : ℕ) → pulse g (stands k.count o k) ≡ stands k.count 1 k
+  forced_step : eqb k.loaded 1 ≡ true → eqb g 1 ≡ false → (o : ℕ) → pulse g (stands k.count o k) ≡ stands k.count 1 k
   unfolding pulse pulse2 stands
-  forced-step l t o = simp (m, l, t) (gated g (stands k.count 1 k) e)
+  forced_step l t o = simp (m, l, t) (gated g (stands k.count 1 k) e)
 
   forced : eqb k.loaded 1 ≡ true → eqb g 1 ≡ false → (n : ℕ) → pulses n g k ≡ stands k.count (cond (eqb n 0) k.output 1) k
   unfolding pulses stands
   forced l t zero = refl
   forced l t (suc n) =
-      ap (pulses n g) (forced-step l t k.output) ∙ still n g (stands k.count 1 k) (forced-step l t 1)
+      ap (pulses n g) (forced_step l t k.output) ∙ still n g (stands k.count 1 k) (forced_step l t 1)
       ∙ sym (simp (ne_eqb (suc n) 0 (λ z. omega arith)))
 
 -- All of them
@@ -229,9 +229,9 @@ steady_law n g k r =
     (λ l. simp l (still n g k (waits2 g k m r.gate l (r.none2 m l))))))
   where
     runs : eqb k.mode 0 ≡ false → eqb k.loaded 1 ≡ true → g ≡ 1 → Runs k
-    runs m l e = record { mode = m; loaded = l; gate = r.gate ∙ e; count = r.within.counts.count; again = again-le k r.within }
+    runs m l e = record { mode = m; loaded = l; gate = r.gate ∙ e; count = r.within.counts.count; again = again_le k r.within }
 
 -- n pulses: one, and then the closed form of the others
 pub jump_law : (n g : ℕ) (k : Counter) → g ≤ 1 → Within k → pulses (suc n) g k ≡ steady n g (pulse g k)
 unfolding pulses
-jump_law n g k h w = steady_law n g (pulse g k) (pulse-ready g k w h)
+jump_law n g k h w = steady_law n g (pulse g k) (pulse_ready g k w h)

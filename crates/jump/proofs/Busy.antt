@@ -15,38 +15,38 @@ use Rattle.machine.specs.Record.{accepted}
 use Rattle.machine.specs.Cycle.{cycle_of, cycles}
 use Rattle.machine.specs.Rounds.{busy, marks, busy_cycles, quiet_runs, rounds_of, rounds}
 use Rattle.machine.specs.Calls.{longest}
-use Rattle.record.proofs.Accepted.{ranges-of}
+use Rattle.record.proofs.Accepted.{ranges_of}
 use Rattle.machine.proofs.Choices.{by_test}
-use Rattle.laws.proofs.Rounds.{Marked, busy-round, quiet-round}
+use Rattle.laws.proofs.Rounds.{Marked, busy_round, quiet_round}
 use Rattle.strides.specs.Stride.{room}
-use Rattle.strides.proofs.Exact.{no_room, quiet, busy-next}
+use Rattle.strides.proofs.Exact.{no_room, quiet, busy_next}
 use Rattle.jump.specs.declared.Round.{Round}
 use Rattle.jump.specs.Rounds.{used_in, Crossed, QuietRun, RoundOf}
-use Rattle.jump.proofs.Rounds.{ran, used-busy, used-quiet}
+use Rattle.jump.proofs.Rounds.{ran, used_busy, used_quiet}
 
 module _ (pins left : ℕ) (d : Device) (a : accepted d ≡ true) (some : 1 ≤ left) (most : left ≤ longest) where
   -- the cycles of a round
-  used-round : RoundOf pins left d (used_in pins left d)
-  used-round = go (room pins d) refl
+  used_round : RoundOf pins left d (used_in pins left d)
+  used_round = go (room pins d) refl
     where
       go : (k : ℕ) → room pins d ≡ k → RoundOf pins left d (used_in pins left d)
-      go zero e = inl (record { one = used-busy pins left d e; busy = no_room pins d (ranges-of d a) e })
+      go zero e = inl (record { one = used_busy pins left d e; busy = no_room pins d (ranges_of d a) e })
       go (suc k) e =
-          let u = used-quiet pins left d (omega arith) in
+          let u = used_quiet pins left d (omega arith) in
           inr (record {
             some = omega arith;
             within = omega arith;
-            quiet = λ j h. quiet pins d (ranges-of d a) j (omega arith);
+            quiet = λ j h. quiet pins d (ranges_of d a) j (omega arith);
             ends =
                 by_test (leb left (room pins d)) (λ t. inl (omega (arith, leb-true left (room pins d) t)))
                 (λ t.
                 let f = leb-false left (room pins d) t in
                 let w : used_in pins left d ≡ room pins d = omega arith in
-                inr (subst (λ (m : ℕ). busy pins (cycles m pins d) ≡ true) (sym w) (busy-next pins d (ranges-of d a) (omega arith))));
+                inr (subst (λ (m : ℕ). busy pins (cycles m pins d) ≡ true) (sym w) (busy_next pins d (ranges_of d a) (omega arith))));
           })
 
-  pub crossed-round : (sum : Totals) (r : Round) → Crossed pins left (ran sum d) r → RoundOf pins left d r.used
-  crossed-round sum r c = subst (RoundOf pins left d) (sym c.used) used-round
+  pub crossed_round : (sum : Totals) (r : Round) → Crossed pins left (ran sum d) r → RoundOf pins left d r.used
+  crossed_round sum r c = subst (RoundOf pins left d) (sym c.used) used_round
 
 -- Rounds counted
 
@@ -63,7 +63,7 @@ unfolding rounds
 busy_counts pins zero d h b = absurd (omega arith)
 busy_counts pins (suc n) d h b =
     let less : n ≡ suc n - 1 = omega arith in
-    busy-round (chip_marked pins) n d b ∙ ap (λ (k : ℕ). suc (rounds k pins (cycles 1 pins d))) less
+    busy_round (chip_marked pins) n d b ∙ ap (λ (k : ℕ). suc (rounds k pins (cycles 1 pins d))) less
 
 quiet_counts : (pins left : ℕ) (d : Device) (m : ℕ) → QuietRun pins left d m → Counts pins left d m
 unfolding rounds
@@ -71,7 +71,7 @@ quiet_counts pins left d zero q = absurd (omega (arith, q.some))
 quiet_counts pins left d (suc m) q =
     let fits = q.within in
     let all : left ≡ suc (m + (left - suc m)) = omega arith in
-    ap (λ (k : ℕ). rounds k pins d) all ∙ quiet-round (chip_marked pins) m (left - suc m) d q.quiet (ends q.ends)
+    ap (λ (k : ℕ). rounds k pins d) all ∙ quiet_round (chip_marked pins) m (left - suc m) d q.quiet (ends q.ends)
   where
     ends : (suc m ≡ left) ⊎ (busy pins (cycles (suc m) pins d) ≡ true) → (left - suc m ≡ 0) ⊎ (busy pins (cycles (suc m) pins d) ≡ true)
     ends (inl e) = inl (omega arith)

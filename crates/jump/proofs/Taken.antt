@@ -81,15 +81,15 @@ marks_taken (suc n) pins d =
 
 -- what is called with a pin byte as the kind takes it promises the same of the one that is given
 module _ (pins : ℕ) (d : Device) {l : ℕ} (e : l ≡ pins_of d.kind pins) where
-  pub ready-taken : accepted d ≡ true → Ready l d
-  ready-taken a = record { good = a; taken = ap (pins_of d.kind) e ∙ (pins_twice d.kind pins ∙ sym e) }
+  pub ready_taken : accepted d ≡ true → Ready l d
+  ready_taken a = record { good = a; taken = ap (pins_of d.kind) e ∙ (pins_twice d.kind pins ∙ sym e) }
 
-  pub run-taken : (n : ℕ) {u : Device} → u ≡ cycles n l d → u ≡ cycles n pins d
-  run-taken n c = c ∙ (ap (λ (p : ℕ). cycles n p d) e ∙ cycles_taken n pins d)
+  pub run_taken : (n : ℕ) {u : Device} → u ≡ cycles n l d → u ≡ cycles n pins d
+  run_taken n c = c ∙ (ap (λ (p : ℕ). cycles n p d) e ∙ cycles_taken n pins d)
 
-  pub laps-taken : (n : ℕ) (sum : Totals) {t : Totals} → t ≡ added sum (totals n l d) → t ≡ added sum (totals n pins d)
-  laps-taken n sum c = c ∙ ap (added sum) (ap (λ (p : ℕ). totals n p d) e ∙ totals_taken n pins d)
+  pub laps_taken : (n : ℕ) (sum : Totals) {t : Totals} → t ≡ added sum (totals n l d) → t ≡ added sum (totals n pins d)
+  laps_taken n sum c = c ∙ ap (added sum) (ap (λ (p : ℕ). totals n p d) e ∙ totals_taken n pins d)
 
-  pub count-taken : (n : ℕ) {m : ℕ} → m ≡ rounds n l d → m ≡ rounds n pins d
+  pub count_taken : (n : ℕ) {m : ℕ} → m ≡ rounds n l d → m ≡ rounds n pins d
   unfolding rounds
-  count-taken n c = c ∙ (ap (λ (p : ℕ). rounds n p d) e ∙ ap (λ (ms : List Bool). rounds_of ms) (marks_taken n pins d))
+  count_taken n c = c ∙ (ap (λ (p : ℕ). rounds n p d) e ∙ ap (λ (ms : List Bool). rounds_of ms) (marks_taken n pins d))

@@ -248,12 +248,12 @@ and_not w k x h l =
     less : j + (k + 1) ≡ w
     less = omega arith
 
-    mask-of : (p q n : ℕ) → zero < q → n ≡ suc p * (q * 2) → n - 1 - q ≡ (p * 2 + 0) * q + (q - 1)
-    mask-of p q n hq e = omega (arith, e ∙ suc-mul p (q * 2))
+    mask_of : (p q n : ℕ) → zero < q → n ≡ suc p * (q * 2) → n - 1 - q ≡ (p * 2 + 0) * q + (q - 1)
+    mask_of p q n hq e = omega (arith, e ∙ suc-mul p (q * 2))
 
     mask : 2 ^ w - 1 - 2 ^ k ≡ ((2 ^ j - 1) * 2 + 0) * 2 ^ k + (2 ^ k - 1)
     mask =
-        mask-of (2 ^ j - 1) (2 ^ k) (2 ^ w) (pow_pos k)
+        mask_of (2 ^ j - 1) (2 ^ k) (2 ^ w) (pow_pos k)
         (ap (λ (n : ℕ). 2 ^ n) (sym less) ∙ pow-add 2 j (k + 1)
         ∙ ap₂ (λ (m n : ℕ). m * n) (sym (suc_ones j)) (pow-add 2 k 1))
 

@@ -93,15 +93,15 @@ module _ (pins : ℕ) (d : Device) (ms : List Made) (r : Recalls d.times ms) whe
             ∙ (λ i. cond (risen_at (flags d) (flags (steps d l)) k refl i) (steps d l).cycle (r.number k h i));
       }
 
-  cycle-recalls : Recalls (cycle_of pins d).times (next (cycle_of pins d))
+  cycle_recalls : Recalls (cycle_of pins d).times (next (cycle_of pins d))
   unfolding cycle_of
-  cycle-recalls =
+  cycle_recalls =
       by_test (powered_down d.pcon) (λ t. rw t still) (λ f. rw f (awake (pins_of d.kind pins)))
 
 held_recalls : (n pins : ℕ) (d : Device) (ms : List Made) → Recalls d.times ms → Recalls (cycles n pins d).times (made_held n pins d ms)
 unfolding cycles made_held
 held_recalls zero pins d ms r = r
-held_recalls (suc n) pins d ms r = held_recalls n pins (cycle_of pins d) _ (cycle-recalls pins d ms r)
+held_recalls (suc n) pins d ms r = held_recalls n pins (cycle_of pins d) _ (cycle_recalls pins d ms r)
 
 trace_recalls : (es : List ℕ) (d : Device) (ms : List Made) → Recalls d.times ms → Recalls (trace_cycles es d).times (made_trace es d ms)
 unfolding trace_cycles made_trace
@@ -130,15 +130,15 @@ module _ (d : Device) where
   taken none = refl
   taken (source k) = refl
 
-  take-keeps : KeptTake (take_answer d)
+  take_keeps : KeptTake (take_answer d)
   unfolding take_answer
-  take-keeps =
+  take_keeps =
       chosen KeptTake (accepted d) _ _
       (chosen KeptTake (powered_down d.pcon) _ _ refl (taken (offered d.pcon d.interrupts))) refl
 
-  return-keeps : Kept (return_answer d)
+  return_keeps : Kept (return_answer d)
   unfolding return_answer
-  return-keeps =
+  return_keeps =
       chosen Kept (accepted d) _ _
       (chosen Kept (powered_down d.pcon) _ _ refl (chosen Kept (none_in_service d.interrupts) _ _ refl refl)) refl
 
@@ -154,20 +154,20 @@ module _ (d : Device) where
     RecallsCycle a = Recalls a.device.times (cond (eqb a.code 0) new ms)
 
     -- refused by a number that is not 0
-    jump-recalls : (t : Totals) (rounds fault : ℕ) (b : Bool) → eqb fault 0 ≡ b → RecallsJump (cond b (passed_jump t rounds e) (refuse_jump fault d))
-    jump-recalls t rounds fault true f = q
-    jump-recalls t rounds fault false f = rw f r
+    jump_recalls : (t : Totals) (rounds fault : ℕ) (b : Bool) → eqb fault 0 ≡ b → RecallsJump (cond b (passed_jump t rounds e) (refuse_jump fault d))
+    jump_recalls t rounds fault true f = q
+    jump_recalls t rounds fault false f = rw f r
 
-    run-recalls : (t : Totals) (fault : ℕ) (b : Bool) → eqb fault 0 ≡ b → RecallsRun (cond b (passed_run t e) (refuse_run fault d))
-    run-recalls t fault true f = q
-    run-recalls t fault false f = rw f r
+    run_recalls : (t : Totals) (fault : ℕ) (b : Bool) → eqb fault 0 ≡ b → RecallsRun (cond b (passed_run t e) (refuse_run fault d))
+    run_recalls t fault true f = q
+    run_recalls t fault false f = rw f r
 
-    trace-answers : (t : Totals) (fault : ℕ)
+    trace_answers : (t : Totals) (fault : ℕ)
         → RecallsRun (cond (accepted d) (cond (eqb fault 0) (passed_run t e) (refuse_run fault d)) (refuse_run 1 d))
-    trace-answers t fault = chosen RecallsRun (accepted d) _ _ (run-recalls t fault (eqb fault 0) refl) r
+    trace_answers t fault = chosen RecallsRun (accepted d) _ _ (run_recalls t fault (eqb fault 0) refl) r
 
-    cycle-answers : (pins : ℕ) → RecallsCycle (cond (accepted d) (cond (pins_ok pins) (passed_cycle e) (refuse_cycle 4 d)) (refuse_cycle 1 d))
-    cycle-answers pins = chosen RecallsCycle (accepted d) _ _ (chosen RecallsCycle (pins_ok pins) _ _ q r) r
+    cycle_answers : (pins : ℕ) → RecallsCycle (cond (accepted d) (cond (pins_ok pins) (passed_cycle e) (refuse_cycle 4 d)) (refuse_cycle 1 d))
+    cycle_answers pins = chosen RecallsCycle (accepted d) _ _ (chosen RecallsCycle (pins_ok pins) _ _ q r) r
 
 -- no flag ever rose, and no cycle was made
 zero_at : List ℕ → ℕ → Bool
@@ -193,15 +193,15 @@ call_recalls (Call.reset kind) d ms r = reset_recalls kind
 call_recalls (Call.read a) d ms r = r
 call_recalls (Call.write a v) d ms r = rw (write_keeps d a v) r
 call_recalls (Call.cycle pins) d ms r =
-    cycle-answers d ms _ r (cycle_of pins d) (held_recalls 1 pins d ms r) pins
+    cycle_answers d ms _ r (cycle_of pins d) (held_recalls 1 pins d ms r) pins
 call_recalls (Call.jump pins n) d ms r =
-    jump-recalls d ms _ r (cycles n pins d) (held_recalls n pins d ms r) _ _ (cycles_fault d pins n) (eqb (cycles_fault d pins n) 0) refl
+    jump_recalls d ms _ r (cycles n pins d) (held_recalls n pins d ms r) _ _ (cycles_fault d pins n) (eqb (cycles_fault d pins n) 0) refl
 call_recalls (Call.trace es) d ms r =
-    trace-answers d ms _ r (trace_cycles es d) (trace_recalls es d ms r) _ (trace_fault es)
+    trace_answers d ms _ r (trace_cycles es d) (trace_recalls es d ms r) _ (trace_fault es)
 call_recalls (Call.look pins n) d ms r = r
 call_recalls Call.offer d ms r = r
-call_recalls Call.take d ms r = rw (take-keeps d) r
-call_recalls Call.return d ms r = rw (return-keeps d) r
+call_recalls Call.take d ms r = rw (take_keeps d) r
+call_recalls Call.return d ms r = rw (return_keeps d) r
 call_recalls (Call.wake pins n) d ms r = r
 
 run_all : (cs : List Call) (d : Device) (ms : List Made) → Recalls d.times ms → Recalls (run cs d).device.times (made cs d ms)

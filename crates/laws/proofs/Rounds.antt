@@ -49,29 +49,29 @@ module _ {S : Type 0} {busy : S → Bool} {next : S → S} {after : ℕ → S �
   one s = w.goes 0 s ∙ w.stays (next s)
 
   -- a busy step is a round
-  pub busy-round : (n : ℕ) (s : S) → busy s ≡ true → rounds_of (marks (suc n) s) ≡ suc (rounds_of (marks n (after 1 s)))
-  busy-round n s e =
+  pub busy_round : (n : ℕ) (s : S) → busy s ≡ true → rounds_of (marks (suc n) s) ≡ suc (rounds_of (marks n (after 1 s)))
+  busy_round n s e =
       ap counted (first n s e) ∙ (marks_busy (marks n (next s)) ∙ ap (λ (t : S). suc (rounds_of (marks n t))) (sym (one s)))
 
   -- and so is a run of others, up to the end or to a busy step
-  last-round : (n : ℕ) (s : S) → busy s ≡ false → (n ≡ 0) ⊎ (busy (next s) ≡ true) → rounds_of (marks (suc n) s) ≡ suc (rounds_of (marks n (next s)))
-  last-round zero s e ends =
+  last_round : (n : ℕ) (s : S) → busy s ≡ false → (n ≡ 0) ⊎ (busy (next s) ≡ true) → rounds_of (marks (suc n) s) ≡ suc (rounds_of (marks n (next s)))
+  last_round zero s e ends =
       ap counted (first 0 s e ∙ ap (λ (ms : List Bool). false ∷ ms) (w.none (next s)))
       ∙ (marks_last ∙ ap (λ (ms : List Bool). suc (rounds_of ms)) (sym (w.none (next s))))
-  last-round (suc n) s e (inl z) = absurd (omega arith)
-  last-round (suc n) s e (inr b) =
+  last_round (suc n) s e (inl z) = absurd (omega arith)
+  last_round (suc n) s e (inr b) =
       ap counted (first (suc n) s e ∙ ap (λ (ms : List Bool). false ∷ ms) (first n (next s) b))
       ∙ (marks_ends (marks n (next (next s))) ∙ ap (λ (ms : List Bool). suc (rounds_of ms)) (sym (first n (next s) b)))
 
-  pub quiet-round : (m n : ℕ) (s : S) → ((j : ℕ) → j < suc m → busy (after j s) ≡ false) → (n ≡ 0) ⊎ (busy (after (suc m) s) ≡ true)
+  pub quiet_round : (m n : ℕ) (s : S) → ((j : ℕ) → j < suc m → busy (after j s) ≡ false) → (n ≡ 0) ⊎ (busy (after (suc m) s) ≡ true)
       → rounds_of (marks (suc (m + n)) s) ≡ suc (rounds_of (marks n (after (suc m) s)))
-  quiet-round zero n s quiet ends =
+  quiet_round zero n s quiet ends =
       let here : busy s ≡ false = ap busy (sym (w.stays s)) ∙ quiet 0 (omega arith) in
-      rw (zero-add, one s) (last-round n s here (rw (one s) at ends))
-  quiet-round (suc m) n s quiet ends =
+      rw (zero-add, one s) (last_round n s here (rw (one s) at ends))
+  quiet_round (suc m) n s quiet ends =
       let here : busy s ≡ false = ap busy (sym (w.stays s)) ∙ quiet 0 (omega arith) in
       let there : busy (next s) ≡ false = ap busy (sym (one s)) ∙ quiet 1 (omega arith) in
-      let on = quiet-round m n (next s) (λ j h. ap busy (sym (w.goes j s)) ∙ quiet (suc j) (omega arith)) (rw (w.goes (suc m) s) at ends) in
+      let on = quiet_round m n (next s) (λ j h. ap busy (sym (w.goes j s)) ∙ quiet (suc j) (omega arith)) (rw (w.goes (suc m) s) at ends) in
       rw (suc-add, w.goes (suc m) s)
       (ap counted (first (suc (m + n)) s here ∙ ap (λ (ms : List Bool). false ∷ ms) (first (m + n) (next s) there))
       ∙ (marks_on (marks (m + n) (next (next s))) ∙ (ap counted (sym (first (m + n) (next s) there)) ∙ on)))

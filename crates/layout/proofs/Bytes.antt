@@ -53,9 +53,9 @@ module _ (file : List ℕ) (at width : ℕ) where
     long : length chunk ≡ width
     long = length-take-le width (drop at file) (omega (arith, lib.ListN.length-drop at file))
 
-    pub sum-none : Summed chunk width width 0
+    pub sum_none : Summed chunk width width 0
     unfolding number_of
-    sum-none =
+    sum_none =
         record {
           within = omega arith;
           sum = let l : length chunk ≤ width = omega (arith, long) in ap number_of (sym (drop_of_length-le chunk l));
@@ -79,9 +79,9 @@ module _ (file : List ℕ) (at width : ℕ) where
       pub inside : at + (i - 1) < length file
       inside = let w = s.within in omega arith
 
-      pub sum-on : get_or file (at + (i - 1)) 0 < 256 → Summed chunk width (i - 1) (n * 256 + get_or file (at + (i - 1)) 0)
+      pub sum_on : get_or file (at + (i - 1)) 0 < 256 → Summed chunk width (i - 1) (n * 256 + get_or file (at + (i - 1)) 0)
       unfolding number_of
-      sum-on lb =
+      sum_on lb =
           let w = s.within in
           let b = get_or file (at + (i - 1)) 0 in
           let here : get_or chunk (i - 1) 0 ≡ b = get_or-take width (drop at file) (i - 1) 0 (omega arith) ∙ get_or-drop at file (i - 1) 0 in
@@ -102,8 +102,8 @@ pub record Putting (width at : ℕ) (row before now : List ℕ) (i left : ℕ) :
   pub long : length now ≡ length before
 
 module _ (width at n : ℕ) (before : List ℕ) where
-  pub put-none : Putting width at (bytes_of width n) before before 0 n
-  put-none =
+  pub put_none : Putting width at (bytes_of width n) before before 0 n
+  put_none =
       record {
         within = omega arith;
         rest = rw (sub-zero) (ap (λ (k : ℕ). put (bytes_of width n) k before) (omega arith));
@@ -123,8 +123,8 @@ module _ (width at n : ℕ) (before : List ℕ) where
           long = length-set now (at + i) (left % 256) ∙ p.long;
         }
 
-    pub put-out : width ≤ i → now ≡ put (bytes_of width n) at before
+    pub put_out : width ≤ i → now ≡ put (bytes_of width n) at before
     unfolding put bytes_of
-    put-out h =
+    put_out h =
         let e : width - i ≡ 0 = omega arith in
         rw e at p.rest

@@ -61,9 +61,9 @@ agree kind n (inl e) h = rw e (holds (agrees 51 n) (at (agrees 51) 66 tested51 n
 agree kind n (inr e) h = rw e (holds (agrees 52 n) (at (agrees 52) 76 tested52 n (rw e at h)))
 
 module _ (kind n : ℕ) (k : Kind kind) (h : n < part_count kind) where
-  pub part-is : part_at kind n ≡ get_or (layout kind) n (Mark 0)
+  pub part_is : part_at kind n ≡ get_or (layout kind) n (Mark 0)
   unfolding agrees
-  part-is = same_is _ _ (and_two _ _ (agree kind n k h)).0
+  part_is = same_is _ _ (and_two _ _ (agree kind n k h)).0
 
   tests : (ltb (place_of (part_at kind n)) places && leb (width_of (part_at kind n)) 8) ≡ true
   unfolding agrees sized
@@ -72,8 +72,8 @@ module _ (kind n : ℕ) (k : Kind kind) (h : n < part_count kind) where
   pub part_placed : place_of (part_at kind n) < places
   part_placed = ltb-true _ _ (and_two (ltb (place_of (part_at kind n)) places) (leb (width_of (part_at kind n)) 8) tests).0
 
-  pub part-narrow : width_of (part_at kind n) ≤ 8
-  part-narrow = leb-true _ _ (and_two (ltb (place_of (part_at kind n)) places) (leb (width_of (part_at kind n)) 8) tests).1
+  pub part_narrow : width_of (part_at kind n) ≤ 8
+  part_narrow = leb-true _ _ (and_two (ltb (place_of (part_at kind n)) places) (leb (width_of (part_at kind n)) 8) tests).1
 
 -- how many parts there are
 pub layout_long : (kind : ℕ) → Kind kind → length (layout kind) ≡ part_count kind

@@ -9,8 +9,8 @@ use mathlib.Core.List.{[], ◌∷◌, List}
 use lib.Dec.{T, eqb_refl}
 use lib.ListN.{length}
 use seplogic.Ra.Ura.{Ura}
-use seplogic.Ra.TreeShare.{full_share}
-use mir.Syntax.{Name, Width, w8, Ty, ty_int, ty_ref, ty_unit, named, imm, mut, Step as PStep, deref, field, place, Opd as Operand, copy, opd_unit, Rv as RValue, rv_opd, aggregate, Body, seq, assign, call, return, local, value_local, Fn}
+use base.Fraction.{full_share}
+use mir.Syntax.{Callee, Width, w8, Ty, ty_int, ty_ref, ty_unit, named, imm, mut, Step as PStep, deref, field, place, Opd as Operand, copy, opd_unit, Rv as RValue, rv_opd, aggregate, Body, seq, assign, call, return, local, value_local, Fn}
 use mir.Val.{Val, Vals, bytes, vunit, vint, vptr, vstruct, of_list, has_ty, WT}
 use mir.Fields.{get_v}
 use base.Logic.{SProp, ent, sep, emp, via, id⊢, emp∗, comm∗, mono_r, fst∗}
@@ -33,7 +33,7 @@ use denote.Laws.{Is, Ises, Are, Spells, Tells, Tellss, Typed, shows, valss}
 use denote.Memory.{mem, cell_at, pointee}
 use denote.Plain.{UInt, uint_Tells, uint_Makes, Nothing, Nothing-Makes}
 use denote.Builtin.{u8}
-use denote.Ref.{Bor, MutBor, MutRef, mut_vals, mut_Tells}
+use denote.Ref.{MutBor, MutRef, mut_vals, mut_Tells}
 use denote.Slice.{slice_ty, slice_val, shr_slice_Tells, mut_slice_Tells}
 use denote.Signature.{Slot, AllWithin, meet_at, plain, mut_ref_to, mut_slice_of, shr_slice_of, types_at}
 use denote.Steps.{opens, closes, owned, peeks, heard, only}
@@ -50,7 +50,7 @@ use denote.Triple.Call.{calls_from}
 use denote.Triple.Clauses.{Ended, Clauses, at_exit, closing}
 use denote.Triple.Table.{entered, cited}
 use denote.Triple.Walked.{Stay, Stays, stay_ref, fits_of, has_of, walk_of, AllGo, Goes-ref, on_exit, ends_at, walked, walk_Meets}
-use Rattle.lent.proofs.Locals.{Places, locals, placed, after, spot_after, copies, rooms, cells, allocs-all, pass_all, free_all, at_local, reads_all}
+use Rattle.lent.proofs.Locals.{Places, locals, placed, after, spot_after, copies, rooms, cells, allocs_all, pass_all, free_all, at_local, reads_all}
 
 -- The struct that is lent: its declaration, its laws, and that its fields are plain
 pub record Struct : Type 3 where
@@ -191,14 +191,14 @@ fits_said κs [] ks a ws = tt
 fits_said κs (s ∷ ss) ks a ws = (tt, fits_said κs ss ks.1 a.1 ws.1)
 
 module _ {M : Type 1} {𝓤 : Ura M} (𝓛 : Logic 𝓤) (n : ℕ) where
-  has-said : (κs : Lfts n) (ss : List (Slot n)) (ks : Kepts ss) (a : Denots (types_at ss κs)) (ws : Fins κs ss ks a) (vss : Valss (types_at ss κs))
+  has_said : (κs : Lfts n) (ss : List (Slot n)) (ks : Kepts ss) (a : Denots (types_at ss κs)) (ws : Fins κs ss ks a) (vss : Valss (types_at ss κs))
       → ent 𝓤 (sem 𝓛 (lasts_of κs ss ks a ws)) (sem 𝓛 (has_of κs ss ks (all_said ss ks) a ws vss))
-  has-said κs [] ks a ws vss = id⊢ 𝓤 _
-  has-said κs (s ∷ ss) ks a ws vss = mono_r 𝓤 (sem 𝓛 (left ((s.row κs).exit ks.0) a.0 ws.0)) (has-said κs ss ks.1 a.1 ws.1 vss.1)
+  has_said κs [] ks a ws vss = id⊢ 𝓤 _
+  has_said κs (s ∷ ss) ks a ws vss = mono_r 𝓤 (sem 𝓛 (left ((s.row κs).exit ks.0) a.0 ws.0)) (has_said κs ss ks.1 a.1 ws.1 vss.1)
 
-  go-said : (ss : List (Slot n)) (ks : Kepts ss) → AllGo 𝓛 n ss ks (all_said ss ks)
-  go-said [] ks = tt
-  go-said (s ∷ ss) ks = ((λ κs x f vs ok. 𝓛.laws.⇛_intro _), go-said ss ks.1)
+  go_said : (ss : List (Slot n)) (ks : Kepts ss) → AllGo 𝓛 n ss ks (all_said ss ks)
+  go_said [] ks = tt
+  go_said (s ∷ ss) ks = ((λ κs x f vs ok. 𝓛.laws.⇛_intro _), go_said ss ks.1)
 
 -- the parameters that exports pass on: a number, a slice that is read, and one that is altered
 abbrev pub number : {n : ℕ} → Width → Passed n
@@ -312,9 +312,9 @@ fields_at i [] = []
 fields_at i (k ∷ ks) = copy (place i (field k ∷ [])) ∷ fields_at i ks
 
 module _ {R : Declared} {L : LL.Laws R} {M : Type 1} {𝓤 : Ura M} (𝓛 : Logic 𝓤) (E : Env 𝓤 𝓛.H) (i l : ℕ) (e : spot_of 𝓤 𝓛.H E i ≡ (layout (shape R), l, zero)) (r : R.D) (Γ : List (Item 𝓤)) where
-  pub all-pieces : {ks : List ℕ} (cs : Some R L ks) → Opds (Go {0}) 𝓛 (‵ (Holds (layout (shape R)) l (vstruct (parts R L r))) ∷ Γ) E (fields_at i ks) (piece_vals cs r)
-  all-pieces none = no_more !
-  all-pieces (c with cs) = and_then ! (piece_of c 𝓛 E i l e r Γ) (all-pieces cs)
+  pub all_pieces : {ks : List ℕ} (cs : Some R L ks) → Opds (Go {0}) 𝓛 (‵ (Holds (layout (shape R)) l (vstruct (parts R L r))) ∷ Γ) E (fields_at i ks) (piece_vals cs r)
+  all_pieces none = no_more !
+  all_pieces (c with cs) = and_then ! (piece_of c 𝓛 E i l e r Γ) (all_pieces cs)
 
 -- the struct N that they make
 pub record Pieces {R : Declared} {L : LL.Laws R} {ks : List ℕ} (cs : Some R L ks) (N : Declared) : Type 2 where
@@ -332,7 +332,7 @@ some_pieces {ks = ks} cs N b = record {
   val = λ r. pieces_val cs r;
   typed = λ r known. b.typed r (all_fit cs r known);
   makes = λ 𝓛 r known. LL.makes N b.plains 𝓛 _ _ (b.is r (all_fit cs r known));
-  evals = λ 𝓛 E i l e r Γ. agg ! (all-pieces 𝓛 E i l e r Γ cs);
+  evals = λ 𝓛 E i l e r Γ. agg ! (all_pieces 𝓛 E i l e r Γ cs);
 }
 
 -- none
@@ -394,17 +394,17 @@ module _ {M : Type 1} {𝓤 : Ura M} {𝓛 : Logic 𝓤} {K : Type 0} {Γ : List
   -- the struct of an answer
   open 𝓛 use {H}
 
-  walks-to : K → {E : Env 𝓤 H} {S : Struct} {R : Declared} {L : LL.Laws R} (c : Within S R L) {l : ℕ} → Walks K 𝓛 Γ E (layout (shape R), l, zero) (path c) (stored_as S, l, zero + offset_of c)
-  walks-to t (in_field k c) = fld t c.found (stop t)
-  walks-to t itself = stop t
+  walks_to : K → {E : Env 𝓤 H} {S : Struct} {R : Declared} {L : LL.Laws R} (c : Within S R L) {l : ℕ} → Walks K 𝓛 Γ E (layout (shape R), l, zero) (path c) (stored_as S, l, zero + offset_of c)
+  walks_to t (in_field k c) = fld t c.found (stop t)
+  walks_to t itself = stop t
 
-  struct-in : K → {S : Struct} {R : Declared} {L : LL.Laws R} (c : Within S R L) {l : ℕ} (r : R.D) (n : ℕ) {back : Val → Item 𝓤} → Part K 𝓛 (nth 𝓛 n Γ) full_share (layout (shape R)) l zero (vstruct (parts R L r)) back
+  struct_in : K → {S : Struct} {R : Declared} {L : LL.Laws R} (c : Within S R L) {l : ℕ} (r : R.D) (n : ℕ) {back : Val → Item 𝓤} → Part K 𝓛 (nth 𝓛 n Γ) full_share (layout (shape R)) l zero (vstruct (parts R L r)) back
       → Reads K 𝓛 Γ (stored_as S) l (zero + offset_of c) (value S (struct_of c r))
-  struct-in t {S} {R} {L} (in_field k c) {l} r n p = subst (λ (u : Val). Reads K 𝓛 Γ (stored_as S) l (zero + c.offset) u) (c.held r) (look_in t n (sub t k c.found p))
-  struct-in t itself r n p = look_in t n p
+  struct_in t {S} {R} {L} (in_field k c) {l} r n p = subst (λ (u : Val). Reads K 𝓛 Γ (stored_as S) l (zero + c.offset) u) (c.held r) (look_in t n (sub t k c.found p))
+  struct_in t itself r n p = look_in t n p
 
 -- a function that is called: what it is handed at the values vs, and what it gives
-pub record Called {M : Type 1} {𝓤 : Ura M} (𝓛 : Logic 𝓤) (C : Calls 𝓤 𝓛.H) (f : Name) (vs : List Val) (X : Item 𝓤) (R : Declared) (B : Item 𝓤) (Says : R.D → Item 𝓤) : Type 2 where
+pub record Called {M : Type 1} {𝓤 : Ura M} (𝓛 : Logic 𝓤) (C : Calls 𝓤 𝓛.H) (f : Callee) (vs : List Val) (X : Item 𝓤) (R : Declared) (B : Item 𝓤) (Says : R.D → Item 𝓤) : Type 2 where
   pub post : Val → SProp 𝓤
   pub met : ent 𝓤 (mean 𝓛 X) (C f vs post)
   pub gives : (v : Val) → ent 𝓤 (post v) (mean 𝓛 (later (some (λ (r : R.D). (B ⊛ ‵ ((row R).own_val r (v ∷ []))) ⊛ Says r))))
@@ -425,7 +425,7 @@ module _ {M : Type 1} {𝓤 : Ura M} {𝓛 : Logic 𝓤} {K : Type 0} {Γ : List
       go))
 
   -- the function is called, its answer stands in the local i, and its struct goes behind the borrow, which is closed
-  puts_back : K → {S : Struct} {i j l₂ l₃ : ℕ} {R : Declared} {L : LL.Laws R} (c : Within S R L) {X Y Z B : Item 𝓤} {Says : R.D → Item 𝓤} {f : Name} {xs : List Operand} {vs : List Val} → FmC 𝓤 H 𝓛.laws C
+  puts_back : K → {S : Struct} {i j l₂ l₃ : ℕ} {R : Declared} {L : LL.Laws R} (c : Within S R L) {X Y Z B : Item 𝓤} {Says : R.D → Item 𝓤} {f : Callee} {xs : List Operand} {vs : List Val} → FmC 𝓤 H 𝓛.laws C
       → spot_of 𝓤 H E 1 ≡ (τ, l₁, zero) → spot_of 𝓤 H E i ≡ (layout (shape R), l₂, zero) → spot_of 𝓤 H E j ≡ (stored_as S, l₃, zero)
       → (h : Value S) → Called 𝓛 C f (value S h ∷ vs) X R B Says
       → Opds K 𝓛 (X ∷ Y ∷ Z ∷ ‵ (cell_at full_share (row S.type).mir (value S h ∷ []) b o) ∷ ‵ (fobor κ s (Lends S b o γ)) ∷ ‵ (Behind S γ h) ∷ ‵ (fauth γ ((row S.type).coded.code h)) ∷ ‵ (Holds τ l₁ (vptr b o)) ∷ ‵ (Holds (stored_as S) l₃ (value S h)) ∷ ‵ (froom (layout (shape R)) l₂ zero) ∷ Γ) E xs vs
@@ -440,7 +440,7 @@ module _ {M : Type 1} {𝓤 : Ura M} {𝓛 : Logic 𝓤} {K : Type 0} {Γ : List
       land t (at_local t e₂ (stop t)) (init t 11 refl ((LL.lawful R L 𝓛).typed r _ ir).0) $ drop t $
       rewrite t 10 (λ (u : Val). ‵ (Holds (layout (shape R)) l₂ u)) (ap only (LL.tells R L r (v ∷ []) ir)) refl $
       let known : Known R L r = LL.owed R L r _ ir in
-      assigns t (of_opd t (load t (at_local t e₂ (walks-to t c)) (struct-in t c r 10 (whole t)))) (at_local t e₁ (hop t (look t 8 refl) (stop t)))
+      assigns t (of_opd t (load t (at_local t e₂ (walks_to t c)) (struct_in t c r 10 (whole t)))) (at_local t e₁ (hop t (look t 8 refl) (stop t)))
       (store_raw t 4 refl ((LL.lawful S.type S.laws 𝓛).typed (struct_of c r) _ (is_struct c r known)).0) $
       owned t (row S.type) (Is (row S.type)) (LL.makes S.type S.plains 𝓛) (struct_of c r) _ (is_struct c r known) $
       move t (5 ∷ 0 ∷ 6 ∷ 7 ∷ 8 ∷ []) $ closes t tt (row S.type) (struct_of c r) (value S (struct_of c r) ∷ []) b o $
@@ -455,7 +455,7 @@ asks_nothing 𝓤 P = via 𝓤 (sep 𝓤 (emp 𝓤) P) (emp∗ 𝓤 P) (comm∗ 
 abbrev reference : Struct → Ty
 reference S = ty_ref (named 0) mut (pointee (row S.type).written)
 
-module _ {S : Struct} (n : ℕ) (ps : List (Passed (suc n))) {R : Declared} {L : LL.Laws R} (at : Within S R L) (w : Way S ps (layout (shape R))) (y : Result R L) (f : Name) where
+module _ {S : Struct} (n : ℕ) (ps : List (Passed (suc n))) {R : Declared} {L : LL.Laws R} (at : Within S R L) (w : Way S ps (layout (shape R))) (y : Result R L) (f : Callee) where
   abbrev answer_at : ℕ
   answer_at = suc (suc (after (tys ps) 0))
 
@@ -466,6 +466,8 @@ module _ {S : Struct} (n : ℕ) (ps : List (Passed (suc n))) {R : Declared} {L :
   function = record {
     lifetimes = suc n;
     outlives = [];
+    ty_params = [];
+    givens = 0;
     params = suc (after (tys ps) 0);
     locals = local y.ty value_local ∷ local (reference S) value_local ∷ locals (tys ps) (local (layout (shape R)) value_local ∷ local (stored_as S) value_local ∷ locals w.more []);
     body =
@@ -489,10 +491,10 @@ module _ {S : Struct} (n : ℕ) (ps : List (Passed (suc n))) {R : Declared} {L :
       pub gives : (κs : Lfts (suc n)) (qs : Shares (suc n)) (h : Value S) (a : Others κs ps) (v : Val)
           → ent 𝓤 (d.post (to κs qs h a) v) (mean 𝓛 (later (some (λ (r : R.D). (raw (toks 𝓛 n κs.1 qs.1) ⊛ ‵ ((row R).own_val r (v ∷ []))) ⊛
           some (λ (ws : Unit {0} × Finals κs ps a). ‵ (fsep ftrue (lasts_of κs (slots ps) (kepts ps) a ws.1)) ⊛ raw (fact 𝓤 (Told κs h a r ws.1)))))))
-      pub shows : (κs : Lfts (suc n)) (x : Bor (Value S)) (a : Others κs ps) (g : (c κs (x, a)).ghost) (r : R.D) (ws : Finals κs ps a) → Told κs x.now a r ws
+      pub shows : (κs : Lfts (suc n)) (x : MutBor (Value S)) (a : Others κs ps) (g : (c κs (x, a)).ghost) (r : R.D) (ws : Finals κs ps a) → Told κs x.now a r ws
           → ent 𝓤 (emp 𝓤) ((c κs (x, a)).ensures g (y.res r) (at_exit export κs (x, a) (struct_of at r, ws)))
 
-module _ {S : Struct} {n : ℕ} {ps : List (Passed (suc n))} {R : Declared} {L : LL.Laws R} (at : Within S R L) (w : Way S ps (layout (shape R))) (y : Result R L) (f : Name)
+module _ {S : Struct} {n : ℕ} {ps : List (Passed (suc n))} {R : Declared} {L : LL.Laws R} (at : Within S R L) (w : Way S ps (layout (shape R))) (y : Result R L) (f : Callee)
     {M : Type 1} {𝓤 : Ura M} (𝓛 : Logic 𝓤) (C : Calls 𝓤 𝓛.H) (Λ : Loops 𝓤 𝓛.H) (d : Contract 𝓤) (known : Triple 𝓤 (C f) d) (c : Clauses 𝓤 (lending S n ps y.P)) (F : Follows n ps at w y f 𝓛 d c) where
   open 𝓛 use {H}
 
@@ -536,7 +538,7 @@ module _ {S : Struct} {n : ℕ} {ps : List (Passed (suc n))} {R : Declared} {L :
           suffices ! _ (ends_at 𝓛 T' stayed c bound (y.val r) (y.res r) (struct_of at r, ws) (tt, fits_said κs (slots ps) (kepts ps) a ws)) $
           suffices ! _ (comm∗ 𝓤 e (on_exit 𝓛 T' stayed κs qs (vptr b o ∷ [], values κs ps a) (y.val r) (y.res r) (x, a) (struct_of at r, ws))) $
           use0 𝓛 (raw e) (F.shows κs x a g r ws told) $ frame ! $ move ! (3 ∷ 4 ∷ []) $ join ! $ frame ! $
-          use1 𝓛 (‵ (has_of κs (slots ps) (kepts ps) (all_said (slots ps) (kepts ps)) a ws (values κs ps a))) (has-said 𝓛 (suc n) κs (slots ps) (kepts ps) a ws (values κs ps a)) $ move ! (1 ∷ 2 ∷ []) $
+          use1 𝓛 (‵ (has_of κs (slots ps) (kepts ps) (all_said (slots ps) (kepts ps)) a ws (values κs ps a))) (has_said 𝓛 (suc n) κs (slots ps) (kepts ps) a ws (values κs ps a)) $ move ! (1 ∷ 2 ∷ []) $
           feq_i ! (List Val) (vptr b o ∷ []) (vptr b o ∷ []) refl $ fjoin3 ! $ fjoin ! $
           use0 𝓛 (‵ (y.P.own_val (y.res r) (y.val r ∷ []))) (y.makes 𝓛 r known) $ move ! (1 ∷ 0 ∷ []) $ done !
 
@@ -547,7 +549,7 @@ module _ {S : Struct} {n : ℕ} {ps : List (Passed (suc n))} {R : Declared} {L :
           split ! $ move ! (2 ∷ []) $ fsplit ! $ fsplit3 ! $ drop ! $ move ! (0 ∷ 1 ∷ 3 ∷ []) $
           -- [obs; the borrow; its token; what the others own; the others' tokens]
           enter ! C Λ (function n ps at w y f) (vptr b o ∷ vals κs ps a) _ $
-          alloc1 ! (λ l₀. alloc1 ! (λ l₁. allocs-all ! (tys ps) (λ bs. alloc1 ! (λ l₂. alloc1 ! (λ l₃. allocs-all ! w.more (λ ms. alloc0 ! $ params1 ! $
+          alloc1 ! (λ l₀. alloc1 ! (λ l₁. allocs_all ! (tys ps) (λ bs. alloc1 ! (λ l₂. alloc1 ! (λ l₃. allocs_all ! w.more (λ ms. alloc0 ! $ params1 ! $
           let s : Stand (tys ps) w.more = record { params = bs; answer = l₂; copied = l₃; more = ms } in
           let rest : Env 𝓤 H = (layout (shape R), l₂) ∷ (stored_as S, l₃) ∷ placed w.more ms [] in
           -- [the further locals; the copy; its end; the answer; its end; the others; _1; its end; _0; its end; obs; the
@@ -573,8 +575,8 @@ module _ {S : Struct} {n : ℕ} {ps : List (Passed (suc n))} {R : Declared} {L :
           move ! (0 ∷ 9 ∷ []) $ free1 ! $ move ! (6 ∷ 7 ∷ []) $ free1 ! $ move ! (5 ∷ []) $ free_all ! w.more (w.made κs a) (w.made_typed κs a typed) ms [] $ free0 ! $
           by ! (exits r ws.1 told known)))))))))))
 
-module _ {M : Type 1} {𝓤 : Ura M} (𝓛 : Logic 𝓤) (𝓜 : Model 𝓤 𝓛.H) (𝓡 : Running 𝓤 𝓛.H 𝓜) (γ : Routines) (key : Name)
-    {S : Struct} {n : ℕ} {ps : List (Passed (suc n))} {R : Declared} {L : LL.Laws R} (at : Within S R L) (w : Way S ps (layout (shape R))) (y : Result R L) (f : Name) where
+module _ {M : Type 1} {𝓤 : Ura M} (𝓛 : Logic 𝓤) (𝓜 : Model 𝓤 𝓛.H) (𝓡 : Running 𝓤 𝓛.H 𝓜) (γ : Routines) (key : Callee)
+    {S : Struct} {n : ℕ} {ps : List (Passed (suc n))} {R : Declared} {L : LL.Laws R} (at : Within S R L) (w : Way S ps (layout (shape R))) (y : Result R L) (f : Callee) where
   -- so an export meets its contract, where what it calls meets the contract d
   open 𝓛 use {H}
 
@@ -589,7 +591,7 @@ module _ {M : Type 1} {𝓤 : Ura M} (𝓛 : Logic 𝓤) (𝓜 : Model 𝓤 𝓛
       let known : Triple 𝓤 (𝓣.C f) d = cited 𝓤 H d 𝓜 𝓡 γ f r e met in
       let hs : Stays (lending S n ps y.P).signature.params (lending S n ps y.P).kept = stayed at w y f 𝓛 𝓣.C 𝓣.Λ d known c F in
       entered 𝓤 H (triple_of 𝓛 (lending S n ps y.P).signature (closing 𝓛 (lending S n ps y.P) c)) (tables 𝓤 H 𝓜 𝓡 γ).C (tables 𝓤 H 𝓜 𝓡 γ).Λ key fn unfolded
-      (walk_Meets 𝓛 (lending S n ps y.P) hs (Goes-ref 𝓛 (suc n) 0 tt (plain (λ _. row S.type)), go-said 𝓛 (suc n) (slots ps) (kepts ps)) c (WpFn 𝓤 H 𝓣.C 𝓣.Λ fn) (WpFn-mono 𝓤 H 𝓛.laws 𝓣 fn)
+      (walk_Meets 𝓛 (lending S n ps y.P) hs (Goes-ref 𝓛 (suc n) 0 tt (plain (λ _. row S.type)), go_said 𝓛 (suc n) (slots ps) (kepts ps)) c (WpFn 𝓤 H 𝓣.C 𝓣.Λ fn) (WpFn-mono 𝓤 H 𝓛.laws 𝓣 fn)
       (walked 𝓛 (lending S n ps y.P) hs c (WpFn 𝓤 H 𝓣.C 𝓣.Λ fn) (λ κs. (mut_vals, spells κs ps)) (λ κs. (mut_Tells (named 0) κs.0 (row S.type), all_tell κs ps))
       (λ κs qs bounds a g are. via 𝓤 _ (fst∗ 𝓤 _ ((c κs a).requires g))
       (walk at w y f 𝓛 𝓣.C 𝓣.Λ d known c F κs qs a.0.ref_ptr.0 a.0.ref_ptr.1 a.0.ghost_name a.0.now a.1 g (fm_of 𝓤 H 𝓛.laws 𝓣) (all_typed κs ps a.1 are.1)))))

@@ -4,7 +4,7 @@ use mathlib.Core.Path.{◌≡◌, refl, sym, ap, subst}
 use Prim.Native.Nat.{ℕ, zero, suc}
 use mathlib.Core.List.{List, [], ◌∷◌}
 use seplogic.Ra.Ura.{Ura}
-use seplogic.Ra.TreeShare.{full_share}
+use base.Fraction.{full_share}
 use mir.Syntax.{Ty, Local, local, value_local, Step as PStep, place, Opd as Operand, copy}
 use mir.Val.{Val}
 use base.Logic.{SProp, via, all, wand, all_e, apply∗}
@@ -66,10 +66,10 @@ Way {𝓤 = 𝓤} 𝓛 q τ b o back = all 𝓤 (λ (u : Val). wand 𝓤 (𝓛.H
 module _ {M : Type 1} {𝓤 : Ura M} {𝓛 : Logic 𝓤} {K : Type 0} where
   open 𝓛 use {H}
 
-  pub allocs-all : K → (τs : List Ty) {Γ : List (Item 𝓤)} {ls : List Local} {Kt : Env 𝓤 H → Goal 𝓤 H}
+  pub allocs_all : K → (τs : List Ty) {Γ : List (Item 𝓤)} {ls : List Local} {Kt : Env 𝓤 H → Goal 𝓤 H}
       → ((bs : Places τs) → Seq K 𝓛 (rooms τs bs ∷ Γ) (allocs ls (λ E. Kt (placed τs bs E)))) → Seq K 𝓛 Γ (allocs (locals τs ls) Kt)
-  allocs-all t [] k = nothing t $ k tt
-  allocs-all t (τ ∷ τs) k = alloc1 t (λ b. allocs-all t τs (λ bs. move t (1 ∷ 2 ∷ []) $ join t $ join t $ k (b, bs)))
+  allocs_all t [] k = nothing t $ k tt
+  allocs_all t (τ ∷ τs) k = alloc1 t (λ b. allocs_all t τs (λ bs. move t (1 ∷ 2 ∷ []) $ join t $ join t $ k (b, bs)))
 
   pub pass_all : K → (τs : List Ty) (vs : List Val) → Typed τs vs → (bs : Places τs) (E : Env 𝓤 H) {Γ : List (Item 𝓤)} {g : Goal 𝓤 H}
       → Step K 𝓛 (cells τs bs vs ∷ Γ) g (rooms τs bs ∷ Γ) (passes (placed τs bs E) vs g)
@@ -88,8 +88,8 @@ module _ {M : Type 1} {𝓤 : Ura M} {𝓛 : Logic 𝓤} {K : Type 0} where
 
   module _ {i k : Item 𝓤} {q : Share} {τ : Ty} {b o : ℕ} {v : Val} {back : Val → Item 𝓤} where
     -- what an entry has within it, a pair with it has too
-    pub in-fst : K → Part K 𝓛 i q τ b o v back → Part K 𝓛 (i ⊛ k) q τ b o v (λ u. back u ⊛ k)
-    in-fst t p = record {
+    pub in_fst : K → Part K 𝓛 i q τ b o v back → Part K 𝓛 (i ⊛ k) q τ b o v (λ u. back u ⊛ k)
+    in_fst t p = record {
       out =
           qed 𝓛 (i ∷ k ∷ []) ∵ use1 𝓛 (‵ (fat q τ b o v) ⊛ raw (Way 𝓛 q τ b o back)) p.out $ split ! $ frame ! $
           each ! (λ (u : Val). wand 𝓤 (H.at q τ b o u) (mean 𝓛 (back u ⊛ k))) (λ u. assume ! (‵ (fat q τ b o u)) $ move ! (1 ∷ []) $
@@ -98,8 +98,8 @@ module _ {M : Type 1} {𝓤 : Ura M} {𝓛 : Logic 𝓤} {K : Type 0} where
       same = ap (λ (x : Item 𝓤). x ⊛ k) p.same;
     }
 
-    pub in-snd : K → Part K 𝓛 i q τ b o v back → Part K 𝓛 (k ⊛ i) q τ b o v (λ u. k ⊛ back u)
-    in-snd t p = record {
+    pub in_snd : K → Part K 𝓛 i q τ b o v back → Part K 𝓛 (k ⊛ i) q τ b o v (λ u. k ⊛ back u)
+    in_snd t p = record {
       out =
           qed 𝓛 (k ∷ i ∷ []) ∵ move ! (1 ∷ []) $ use1 𝓛 (‵ (fat q τ b o v) ⊛ raw (Way 𝓛 q τ b o back)) p.out $ split ! $ frame ! $
           each ! (λ (u : Val). wand 𝓤 (H.at q τ b o u) (mean 𝓛 (k ⊛ back u))) (λ u. assume ! (‵ (fat q τ b o u)) $ move ! (1 ∷ []) $
@@ -110,7 +110,7 @@ module _ {M : Type 1} {𝓤 : Ura M} {𝓛 : Logic 𝓤} {K : Type 0} where
 
   -- the first of them, and one of those that follow it
   pub first_cell : K → {τ : Ty} {b : ℕ} {v : Val} {d k : Item 𝓤} → Part K 𝓛 ((‵ (fat full_share τ b zero v) ⊛ d) ⊛ k) full_share τ b zero v (λ u. (‵ (fat full_share τ b zero u) ⊛ d) ⊛ k)
-  first_cell t = in-fst t (in-fst t (whole t))
+  first_cell t = in_fst t (in_fst t (whole t))
 
   module _ {Γ : List (Item 𝓤)} {E : Env 𝓤 H} where
     -- a place in a local that stands at the spot s

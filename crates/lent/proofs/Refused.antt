@@ -34,29 +34,29 @@ module _ (d : Device) where
   abbrev SameTake : TakeAnswer → Type 0
   SameTake a = (a.code ≡ 0 → ⊥) → (a.vector ≡ 0) × (a.device ≡ d)
 
-  pub write-refused : (address value : ℕ) → Same (write_answer d address value)
+  pub write_refused : (address value : ℕ) → Same (write_answer d address value)
   unfolding write_answer
-  write-refused address value =
+  write_refused address value =
       chosen Same (accepted d) _ _
       (chosen Same (powered_down d.pcon) _ _ (λ _. refl)
       (chosen Same (lacks d.kind address) _ _ (λ _. refl) (λ n. absurd (n refl))))
       (λ _. refl)
 
-  pub cycle-refused : (pins : ℕ) → SameCycle (cycle_answer d pins)
+  pub cycle_refused : (pins : ℕ) → SameCycle (cycle_answer d pins)
   unfolding cycle_answer
-  cycle-refused pins =
+  cycle_refused pins =
       chosen SameCycle (accepted d) _ _
       (chosen SameCycle (pins_ok pins) _ _ (λ n. absurd (n refl)) (λ _. (refl, refl)))
       (λ _. (refl, refl))
 
-  pub jump-refused : (pins n : ℕ) → SameJump (jump_answer d pins n)
+  pub jump_refused : (pins n : ℕ) → SameJump (jump_answer d pins n)
   unfolding jump_answer
-  jump-refused pins n =
+  jump_refused pins n =
       chosen SameJump (eqb (cycles_fault d pins n) 0) _ _ (λ n. absurd (n refl)) (λ _. (refl, (refl, refl)))
 
-  pub trace-refused : (es : List ℕ) → SameRun (trace_answer d es)
+  pub trace_refused : (es : List ℕ) → SameRun (trace_answer d es)
   unfolding trace_answer
-  trace-refused es =
+  trace_refused es =
       chosen SameRun (accepted d) _ _
       (chosen SameRun (eqb (trace_fault es) 0) _ _ (λ n. absurd (n refl)) (λ _. (refl, refl)))
       (λ _. (refl, refl))
@@ -66,9 +66,9 @@ module _ (d : Device) where
   taken none = λ _. (refl, refl)
   taken (source k) = λ n. absurd (n refl)
 
-  pub take-refused : SameTake (take_answer d)
+  pub take_refused : SameTake (take_answer d)
   unfolding take_answer
-  take-refused =
+  take_refused =
       chosen SameTake (accepted d) _ _
       (chosen SameTake (powered_down d.pcon) _ _ (λ _. (refl, refl)) (taken (offered d.pcon d.interrupts)))
       (λ _. (refl, refl))

@@ -17,7 +17,7 @@ use Rattle.machine.specs.Lists.{Call, Value, Reply, Played, Ran, ran, play, run,
 use Rattle.c51_checkpoint.proofs.Promises.{saved_loaded}
 use Rattle.lists.specs.Demand3.{Kept, Chained, Started, AsksNothing, rises_in, offered_after, Tells, ToldInLists, Demand3}
 use Rattle.lists.specs.Demand3.Chained.{nothing, then}
-use Rattle.lists.proofs.Looks.{look-means, look-tells, wake-means, wake-tells}
+use Rattle.lists.proofs.Looks.{look_means, look_tells, wake_means, wake_tells}
 use Rattle.lists.proofs.Spells.{spelled}
 use Rattle.lists.proofs.Replayed.{run_long, replayed}
 
@@ -133,11 +133,11 @@ told_in_lists call Told tells start a before after earlier later r last s c l p 
 
 looks_in_lists : (pins n : ℕ) → ToldInLists (Call.look pins n) (λ d. Tells 1 n (rises_in pins d))
 unfolding play
-looks_in_lists pins n = told_in_lists (Call.look pins n) _ (λ d r. look-tells pins n d r)
+looks_in_lists pins n = told_in_lists (Call.look pins n) _ (λ d r. look_tells pins n d r)
 
 wakes_in_lists : (pins n : ℕ) → ToldInLists (Call.wake pins n) (λ d. Tells 0 n (offered_after pins d))
 unfolding play
-wakes_in_lists pins n = told_in_lists (Call.wake pins n) _ (λ d r. wake-tells pins n d r)
+wakes_in_lists pins n = told_in_lists (Call.wake pins n) _ (λ d r. wake_tells pins n d r)
 
 pub demand3 : Demand3
 unfolding machine
@@ -150,9 +150,9 @@ demand3 =
           (chained c' ∙ ap (λ (b : Answer). run after b.device) (saved_loaded κ ι saved buffer filled file code a sized s z same l));
       every_list = every_list;
       asks_nothing = asks_nothing;
-      looks = λ d pins n answer e p. look-means pins n d answer e.0 p;
+      looks = λ d pins n answer e p. look_means pins n d answer e.0 p;
       looks_in_lists = looks_in_lists;
-      wakes = λ d pins n answer e p. wake-means pins n d answer e.0 p;
+      wakes = λ d pins n answer e p. wake_means pins n d answer e.0 p;
       wakes_in_lists = wakes_in_lists;
       spelled = spelled;
       replayed = replayed;

@@ -26,8 +26,8 @@ data Found (start n : ℕ) (so : ℕ → Bool) : LookAnswer → Type 0 where
 
 module _ (start n : ℕ) (so : ℕ → Bool) where
   -- found at its start
-  found-start : start ≤ n → so start ≡ true → Found start n so (Look.At start)
-  found-start h e =
+  found_start : start ≤ n → so start ≡ true → Found start n so (Look.At start)
+  found_start h e =
       at start (record { from = omega arith; within = h; here = e; before = λ j g l. absurd (omega arith) })
 
   -- one place more at the front, where it is not so
@@ -36,10 +36,10 @@ module _ (start n : ℕ) (so : ℕ → Bool) where
   not_start e f j h p =
       by_test (eqb j start) (λ t. ap so (eqb-true j start t) ∙ e) (λ t. f j (omega (arith, eqb-false j start t)) p)
 
-  found-more : so start ≡ false → {a : LookAnswer} → Found (suc start) n so a → Found start n so a
-  found-more e (at k f) =
+  found_more : so start ≡ false → {a : LookAnswer} → Found (suc start) n so a → Found start n so a
+  found_more e (at k f) =
       at k (record { from = omega (arith, f.from); within = f.within; here = f.here; before = not_start e f.before })
-  found-more e (nowhere f) = nowhere (not_start e f)
+  found_more e (nowhere f) = nowhere (not_start e f)
 
 -- a search of n cycles, k having gone before: what the test finds is so at k + 1 and on
 found_after : (finds : Device → Device → Bool) (k n pins : ℕ) (d : Device) (so : ℕ → Bool)
@@ -56,9 +56,9 @@ found_after finds k (suc n) pins d so is =
 
     go : (b : Bool) → finds d (cycle_of pins d) ≡ b → {a : LookAnswer} → Found (suc (suc k)) (suc k + n) so a
         → Found (suc k) (k + suc n) so (cond b (Look.At (suc k)) a)
-    go true e rest = found-start (suc k) (k + suc n) so (omega arith) (first ∙ e)
+    go true e rest = found_start (suc k) (k + suc n) so (omega arith) (first ∙ e)
     go false e {a} rest =
-        found-more (suc k) (k + suc n) so (first ∙ e) (subst (λ (m : ℕ). Found (suc (suc k)) m so a) (omega arith) rest)
+        found_more (suc k) (k + suc n) so (first ∙ e) (subst (λ (m : ℕ). Found (suc (suc k)) m so a) (omega arith) rest)
 
 module _ (pins n : ℕ) (d : Device) where
   -- from cycle 1 on
@@ -69,16 +69,16 @@ module _ (pins n : ℕ) (d : Device) where
       (found_after finds 0 n pins d so (λ j. ap so (omega arith) ∙ is j))
 
   -- the look ahead, and the wake look, which begins at 0
-  rises-found : Found 1 n (rises_in pins d) (first_rise n pins d)
-  rises-found = searched rises (rises_in pins d) (λ j. ap (λ (i : ℕ). rises (cycles i pins d) (cycles (suc j) pins d)) (omega arith))
+  rises_found : Found 1 n (rises_in pins d) (first_rise n pins d)
+  rises_found = searched rises (rises_in pins d) (λ j. ap (λ (i : ℕ). rises (cycles i pins d) (cycles (suc j) pins d)) (omega arith))
 
-  offers-found : Found 0 n (offered_after pins d) (first_offer n pins d)
+  offers_found : Found 0 n (offered_after pins d) (first_offer n pins d)
   unfolding cycles
-  offers-found = go (offers_to d) refl
+  offers_found = go (offers_to d) refl
     where
       go : (b : Bool) → offers_to d ≡ b → Found 0 n (offered_after pins d) (cond b (Look.At 0) (first_cycle wakes 0 n pins d))
-      go true e = found-start 0 n (offered_after pins d) (omega arith) e
-      go false e = found-more 0 n (offered_after pins d) e (searched wakes (offered_after pins d) (λ j. refl))
+      go true e = found_start 0 n (offered_after pins d) (omega arith) e
+      go false e = found_more 0 n (offered_after pins d) e (searched wakes (offered_after pins d) (λ j. refl))
 
 -- What is found is what the answer means
 
@@ -96,15 +96,15 @@ module _ {start n : ℕ} {so : ℕ → Bool} where
       le_antisymm (not_above m k (λ h. clash g.here (f.before k g.from h)))
       (not_above k m (λ h. clash f.here (g.before m f.from h)))
 
-  found-means : {a : LookAnswer} → Found start n so a → Looks start n so a
-  found-means (at m f) =
+  found_means : {a : LookAnswer} → Found start n so a → Looks start n so a
+  found_means (at m f) =
       record {
         names = λ k q. let s : m ≡ k = cc in rw s at f;
         named = λ k g. ap Look.At (only m k f g);
         none_said = λ q. let z : ◌≡◌ {A = ℕ} 0 1 = cc in absurd (omega arith);
         none_is = λ g. absurd (clash f.here (g m f.from f.within));
       }
-  found-means (nowhere f) =
+  found_means (nowhere f) =
       record {
         names = λ k q. let z : ◌≡◌ {A = ℕ} 0 1 = cc in absurd (omega arith);
         named = λ k g. absurd (clash g.here (f k g.from g.within));
@@ -113,8 +113,8 @@ module _ {start n : ℕ} {so : ℕ → Bool} where
       }
 
   -- the same of what its reply says
-  at-tells : (m : ℕ) → Looks start n so (Look.At m) → Tells start n so (number m)
-  at-tells m w =
+  at_tells : (m : ℕ) → Looks start n so (Look.At m) → Tells start n so (number m)
+  at_tells m w =
       record {
         names = λ k q. let s : m ≡ k = cc in w.names k (ap Look.At s);
         named = λ k g. let q = w.named k g in cc;
@@ -131,9 +131,9 @@ module _ {start n : ℕ} {so : ℕ → Bool} where
         none_is = λ g. refl;
       }
 
-  found-tells : {a : LookAnswer} → Found start n so a → Tells start n so (reply_of_look a).value
-  found-tells (at m f) = at-tells m (found-means (at m f))
-  found-tells (nowhere f) = nothing_tells (found-means (nowhere f))
+  found_tells : {a : LookAnswer} → Found start n so a → Tells start n so (reply_of_look a).value
+  found_tells (at m f) = at_tells m (found_means (at m f))
+  found_tells (nowhere f) = nothing_tells (found_means (nowhere f))
 
 -- A look that passes answers what it found
 
@@ -151,23 +151,23 @@ module _ (pins n : ℕ) (d : Device) where
         e ∙ passes (eqb fault 0) fault found refl (ap (λ (x : LookAnswer). (reply_of_look x).code) (sym e) ∙ p)
 
     means : (a : LookAnswer) → a ≡ judged_look d pins n found → (reply_of_look a).code ≡ 0 → Looks start n so a
-    means a e p = rw (passed_is a e p) (found-means why)
+    means a e p = rw (passed_is a e p) (found_means why)
 
     tells : (r : Reply) → r ≡ reply_of_look (judged_look d pins n found) → r.code ≡ 0 → Tells start n so r.value
-    tells r e p = rw (e, passed_is (judged_look d pins n found) refl (ap (λ (x : Reply). x.code) (sym e) ∙ p)) (found-tells why)
+    tells r e p = rw (e, passed_is (judged_look d pins n found) refl (ap (λ (x : Reply). x.code) (sym e) ∙ p)) (found_tells why)
 
-  pub look-means : (a : LookAnswer) → a ≡ look_answer d pins n → (reply_of_look a).code ≡ 0 → Looks 1 n (rises_in pins d) a
+  pub look_means : (a : LookAnswer) → a ≡ look_answer d pins n → (reply_of_look a).code ≡ 0 → Looks 1 n (rises_in pins d) a
   unfolding look_answer
-  look-means = means (first_rise n pins d) (rises-found pins n d)
+  look_means = means (first_rise n pins d) (rises_found pins n d)
 
-  pub look-tells : (r : Reply) → r ≡ reply_of_look (look_answer d pins n) → r.code ≡ 0 → Tells 1 n (rises_in pins d) r.value
+  pub look_tells : (r : Reply) → r ≡ reply_of_look (look_answer d pins n) → r.code ≡ 0 → Tells 1 n (rises_in pins d) r.value
   unfolding look_answer
-  look-tells = tells (first_rise n pins d) (rises-found pins n d)
+  look_tells = tells (first_rise n pins d) (rises_found pins n d)
 
-  pub wake-means : (a : LookAnswer) → a ≡ wake_answer d pins n → (reply_of_look a).code ≡ 0 → Looks 0 n (offered_after pins d) a
+  pub wake_means : (a : LookAnswer) → a ≡ wake_answer d pins n → (reply_of_look a).code ≡ 0 → Looks 0 n (offered_after pins d) a
   unfolding wake_answer
-  wake-means = means (first_offer n pins d) (offers-found pins n d)
+  wake_means = means (first_offer n pins d) (offers_found pins n d)
 
-  pub wake-tells : (r : Reply) → r ≡ reply_of_look (wake_answer d pins n) → r.code ≡ 0 → Tells 0 n (offered_after pins d) r.value
+  pub wake_tells : (r : Reply) → r ≡ reply_of_look (wake_answer d pins n) → r.code ≡ 0 → Tells 0 n (offered_after pins d) r.value
   unfolding wake_answer
-  wake-tells = tells (first_offer n pins d) (offers-found pins n d)
+  wake_tells = tells (first_offer n pins d) (offers_found pins n d)

@@ -11,55 +11,55 @@ use Rattle.machine.specs.Cycle.{cycles}
 use Rattle.machine.specs.Calls.{offers_to, offer_answer, take_of, take_answer, wake_answer}
 use Rattle.machine.specs.Lists.{reply_of_look}
 use Rattle.lists.specs.Offered.{Powered, Agree, Alike, FiveDecide}
-use Rattle.lists.proofs.Looks.{wake-means}
+use Rattle.lists.proofs.Looks.{wake_means}
 
 module _ (d e : Device) (of-d : Powered d) (of-e : Powered e) (five : Agree d e) where
-  choice-alike : choice d.interrupts ≡ choice e.interrupts
+  choice_alike : choice d.interrupts ≡ choice e.interrupts
   unfolding choice
-  choice-alike = rw (five.polled, five.ie, five.ip, five.low, five.high) refl
+  choice_alike = rw (five.polled, five.ie, five.ip, five.low, five.high) refl
 
-  offered-alike : offered d.pcon d.interrupts ≡ offered e.pcon e.interrupts
+  offered_alike : offered d.pcon d.interrupts ≡ offered e.pcon e.interrupts
   unfolding offered
-  offered-alike = rw (of-d.up, of-e.up) choice-alike
+  offered_alike = rw (of-d.up, of-e.up) choice_alike
 
-  offer-alike : offer_answer d ≡ offer_answer e
+  offer_alike : offer_answer d ≡ offer_answer e
   unfolding offer_answer
-  offer-alike = rw (of-d.accepted, of-e.accepted, offered-alike) refl
+  offer_alike = rw (of-d.accepted, of-e.accepted, offered_alike) refl
 
   -- a take of the same source
-  of-source : (s : Source) → ((take_of d s).code ≡ (take_of e s).code) × ((take_of d s).vector ≡ (take_of e s).vector)
+  of_source : (s : Source) → ((take_of d s).code ≡ (take_of e s).code) × ((take_of d s).vector ≡ (take_of e s).vector)
   unfolding take_of
-  of-source none = (refl, refl)
-  of-source (source k) = (refl, refl)
+  of_source none = (refl, refl)
+  of_source (source k) = (refl, refl)
 
-  take-alike : ((take_answer d).code ≡ (take_answer e).code) × ((take_answer d).vector ≡ (take_answer e).vector)
+  take_alike : ((take_answer d).code ≡ (take_answer e).code) × ((take_answer d).vector ≡ (take_answer e).vector)
   unfolding take_answer
-  take-alike = rw (of-d.accepted, of-e.accepted, of-d.up, of-e.up, offered-alike) (of-source (offered e.pcon e.interrupts))
+  take_alike = rw (of-d.accepted, of-e.accepted, of-d.up, of-e.up, offered_alike) (of_source (offered e.pcon e.interrupts))
 
   -- both are offered something, or neither is
-  offers-alike : offers_to d ≡ offers_to e
-  offers-alike = ap some_source offered-alike
+  offers_alike : offers_to d ≡ offers_to e
+  offers_alike = ap some_source offered_alike
 
   -- what names 0 has found that something is offered, and where something is offered 0 is named
-  wake-alike : (pins pins' n n' : ℕ) (a b : LookAnswer) → a ≡ wake_answer d pins n → b ≡ wake_answer e pins' n'
+  wake_alike : (pins pins' n n' : ℕ) (a b : LookAnswer) → a ≡ wake_answer d pins n → b ≡ wake_answer e pins' n'
       → (reply_of_look b).code ≡ 0 → a ≡ Look.At 0 → b ≡ Look.At 0
   unfolding cycles
-  wake-alike pins pins' n n' a b p q passes zero =
-      let here = ((wake-means pins n d a p (ap (λ (x : LookAnswer). (reply_of_look x).code) zero)).names 0 zero).here in
-      (wake-means pins' n' e b q passes).named 0
+  wake_alike pins pins' n n' a b p q passes zero =
+      let here = ((wake_means pins n d a p (ap (λ (x : LookAnswer). (reply_of_look x).code) zero)).names 0 zero).here in
+      (wake_means pins' n' e b q passes).named 0
       (record {
         from = omega arith;
         within = omega arith;
-        here = sym offers-alike ∙ here;
+        here = sym offers_alike ∙ here;
         before = λ j h l. absurd (omega arith);
       })
 
   alike : Alike d e
   alike =
       record {
-        offers = λ a b p q. p.0 ∙ offer-alike ∙ sym q.0;
-        takes = λ a b p q. rw (p, q) take-alike;
-        wakes = λ pins pins' n n' a b p q. wake-alike pins pins' n n' a b p.0 q.0;
+        offers = λ a b p q. p.0 ∙ offer_alike ∙ sym q.0;
+        takes = λ a b p q. rw (p, q) take_alike;
+        wakes = λ pins pins' n n' a b p q. wake_alike pins pins' n n' a b p.0 q.0;
       }
 
 pub five_decide : FiveDecide

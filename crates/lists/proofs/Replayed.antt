@@ -150,21 +150,21 @@ module _ (calls lent : Bor (List ℕ)) (before after : MutBor (List ℕ)) where
       same (machine start cs) (length cs) last before.now after.now (run_long cs _) (all_few cs _) (rw (s.spelled before.now r) at e)
 
   -- from what reset gives a kind
-  pub replays-from-reset : (κs : Lfts 3) (kind : ℕ) (last : Device) (cs : List Call) → Spells given cs → Room (length cs) before.now
+  pub replays_from_reset : (κs : Lfts 3) (kind : ℕ) (last : Device) (cs : List Call) → Spells given cs → Room (length cs) before.now
       → from-reset-reads.Learnt κs (kind, (calls, (lent, (before, tt)))) last (kind, (calls, (lent, (after, tt))))
       → Same (machine (from_reset kind) cs) (length cs) last before.now after.now
-  replays-from-reset κs kind = from_start (from_reset kind)
+  replays_from_reset κs kind = from_start (from_reset kind)
 
   -- from the device of a file
-  pub replays-from-file : (κs : Lfts 4) (file : Bor (List ℕ)) (last : Device) (cs : List Call) → Spells given cs → Room (length cs) before.now
+  pub replays_from_file : (κs : Lfts 4) (file : Bor (List ℕ)) (last : Device) (cs : List Call) → Spells given cs → Room (length cs) before.now
       → from-file-reads.Learnt κs (file, (calls, (lent, (before, tt)))) last (file, (calls, (lent, (after, tt))))
       → Same (machine (from_file file.now) cs) (length cs) last before.now after.now
-  replays-from-file κs file = from_start (from_file file.now)
+  replays_from_file κs file = from_start (from_file file.now)
 
   -- none of them asks anything of its caller
-  pub replay-asks-nothing : (κs : Lfts 3) (d : Device) (kind : ℕ)
+  pub replay_asks_nothing : (κs : Lfts 3) (d : Device) (kind : ℕ)
       → replay-reads.Asked κs (d, (calls, (lent, (before, tt)))) × from-reset-reads.Asked κs (kind, (calls, (lent, (before, tt))))
-  replay-asks-nothing κs d kind = (tt, tt)
+  replay_asks_nothing κs d kind = (tt, tt)
 
-  pub replay-from-file-asks-nothing : (κs : Lfts 4) (file : Bor (List ℕ)) → from-file-reads.Asked κs (file, (calls, (lent, (before, tt))))
-  replay-from-file-asks-nothing κs file = tt
+  pub replay_from_file_asks_nothing : (κs : Lfts 4) (file : Bor (List ℕ)) → from-file-reads.Asked κs (file, (calls, (lent, (before, tt))))
+  replay_from_file_asks_nothing κs file = tt

@@ -148,13 +148,13 @@ module _ (s : Script) (n : ℕ) (d₀ : Device) (before : List ℕ) where
 
   module _ {now : List ℕ} {d : Device} {i : ℕ} (w : Halfway s n d₀ before now d i) where
     -- the words of row i have room
-    pub fits-at : i < n → (k : ℕ) → k < answer_words → i * answer_words + k < length now
-    fits-at h k l = let e = w.long in let r = w.room in omega arith
+    pub fits_at : i < n → (k : ℕ) → k < answer_words → i * answer_words + k < length now
+    fits_at h k l = let e = w.long in let r = w.room in omega arith
 
-    played-row : i < n
+    played_row : i < n
         → Halfway s n d₀ before (put (row_of (play (call_at s i) d).reply) (i * answer_words) now) (play (call_at s i) d).device (i + 1)
     unfolding run
-    played-row h =
+    played_row h =
         let on = rest_on s n i h in
         let all = (whole s before d₀).replies in
         record {
@@ -166,16 +166,16 @@ module _ (s : Script) (n : ℕ) (d₀ : Device) (before : List ℕ) where
           answers = written_on all before now i _ _ (let l = w.long in let r = w.room in omega arith) (rw on at w.answers);
         }
 
-    pub played-on : {p : Shown} → i < n → p ≡ shown (play (call_at s i) d)
+    pub played_on : {p : Shown} → i < n → p ≡ shown (play (call_at s i) d)
         → Halfway s n d₀ before (stored p.row (i * answer_words) now) p.device (i + 1)
     unfolding run
-    played-on {p} h e =
+    played_on {p} h e =
         rw (e, stored_is (play (call_at s i) d).reply (i * answer_words) now)
-        (played-row h)
+        (played_row h)
 
-    pub played-out : n ≤ i → Answered (whole s before d₀) d before now
+    pub played_out : n ≤ i → Answered (whole s before d₀) d before now
     unfolding run
-    played-out h =
+    played_out h =
         let none = rest_none s n i h in
         record {
           state = rw none at w.state;

@@ -15,13 +15,13 @@ use Rattle.machine.specs.Cycle.{cycle_of, cycles}
 use Rattle.machine.specs.Calls.{first_cycle, rises, offers_to, wakes}
 use Rattle.laws.specs.Ranges.{Ranges}
 use Rattle.laws.proofs.Flags.{none_rises}
-use Rattle.cycle.proofs.Keeps.{cycle-ranges}
+use Rattle.cycle.proofs.Keeps.{cycle_ranges}
 use Rattle.strides.specs.Stride.{room}
 use Rattle.strides.proofs.Runs.{cycles_one}
-use Rattle.strides.proofs.Strides.{cycle-room}
+use Rattle.strides.proofs.Strides.{cycle_room}
 use Rattle.strides.proofs.Silent.{Silent, quiet_silent}
 use Rattle.reload.proofs.Alone.{Idle}
-use Rattle.reload.proofs.Runs.{cycle-idle, cycle-silent}
+use Rattle.reload.proofs.Runs.{cycle_idle, cycle_silent}
 
 -- The tests of the two looks
 
@@ -56,15 +56,15 @@ module _ (finds : Device → Device → Bool) where
   find_none k zero pins d h = refl
   find_none k (suc n) pins d h = absurd (omega arith)
 
-  find-here : (k n pins : ℕ) (d : Device) → 0 < n → finds d (cycle_of pins d) ≡ true → first_cycle finds k n pins d ≡ At (k + 1)
+  find_here : (k n pins : ℕ) (d : Device) → 0 < n → finds d (cycle_of pins d) ≡ true → first_cycle finds k n pins d ≡ At (k + 1)
   unfolding first_cycle
-  find-here k zero pins d h e = absurd (omega arith)
-  find-here k (suc n) pins d h e = simp (e, add-one)
+  find_here k zero pins d h e = absurd (omega arith)
+  find_here k (suc n) pins d h e = simp (e, add-one)
 
-  find-later : (k n pins : ℕ) (d : Device) → k < n → finds d (cycle_of pins d) ≡ false
+  find_later : (k n pins : ℕ) (d : Device) → k < n → finds d (cycle_of pins d) ≡ false
       → first_cycle finds k (n - k) pins d ≡ first_cycle finds (k + 1) (n - (k + 1)) pins (cycle_of pins d)
   unfolding first_cycle
-  find-later k n pins d h e = go (n - k) (n - (k + 1)) (omega arith)
+  find_later k n pins d h e = go (n - k) (n - (k + 1)) (omega arith)
     where
       go : (a b : ℕ) → a ≡ suc b → first_cycle finds k a pins d ≡ first_cycle finds (k + 1) b pins (cycle_of pins d)
       go a b q = simp (q, e, add-one)
@@ -72,51 +72,51 @@ module _ (finds : Device → Device → Bool) where
 -- Silent stretches
 
 module _ {finds : Device → Device → Bool} {P : Device → Type 0} (hears : Hears finds P) where
-  quiet-once : (pins : ℕ) (d : Device) → Ranges d → P d → 1 ≤ room pins d → finds d (cycle_of pins d) ≡ false
-  quiet-once pins d r p h = hears.silence d (cycle_of pins d) (subst (Silent d) (cycles_one pins d) (quiet_silent 1 pins d r h)) p
+  quiet_once : (pins : ℕ) (d : Device) → Ranges d → P d → 1 ≤ room pins d → finds d (cycle_of pins d) ≡ false
+  quiet_once pins d r p h = hears.silence d (cycle_of pins d) (subst (Silent d) (cycles_one pins d) (quiet_silent 1 pins d r h)) p
 
-  find-add : (m n k pins : ℕ) (d : Device) → Ranges d → P d → m ≤ room pins d
+  find_add : (m n k pins : ℕ) (d : Device) → Ranges d → P d → m ≤ room pins d
       → first_cycle finds k (m + n) pins d ≡ first_cycle finds (k + m) n pins (cycles m pins d)
   unfolding first_cycle cycles
-  find-add zero n k pins d r p h = simp (zero-add, add-zero)
-  find-add (suc m) n k pins d r p h =
-      let none = quiet-once pins d r p (omega arith) in
+  find_add zero n k pins d r p h = simp (zero-add, add-zero)
+  find_add (suc m) n k pins d r p h =
+      let none = quiet_once pins d r p (omega arith) in
       rw (suc-add, none)
-      (find-add m n (suc k) pins (cycle_of pins d) (cycle-ranges d r pins) (hears.goes_on d (cycle_of pins d) none) (cycle-room pins d r m h)
+      (find_add m n (suc k) pins (cycle_of pins d) (cycle_ranges d r pins) (hears.goes_on d (cycle_of pins d) none) (cycle_room pins d r m h)
       ∙ ap (λ (j : ℕ). first_cycle finds j n pins (cycles m pins (cycle_of pins d))) (omega arith))
 
   -- no cycle of a quiet run is found
-  pub find-quiet : (m k pins : ℕ) (d : Device) → Ranges d → P d → m ≤ room pins d → first_cycle finds k m pins d ≡ Nothing
-  find-quiet m k pins d r p h =
+  pub find_quiet : (m k pins : ℕ) (d : Device) → Ranges d → P d → m ≤ room pins d → first_cycle finds k m pins d ≡ Nothing
+  find_quiet m k pins d r p h =
       ap (λ (n : ℕ). first_cycle finds k n pins d) (omega arith)
-      ∙ (find-add m 0 k pins d r p h ∙ find_none finds (k + m) 0 pins (cycles m pins d) (omega arith))
+      ∙ (find_add m 0 k pins d r p h ∙ find_none finds (k + m) 0 pins (cycles m pins d) (omega arith))
 
-  find-stride : (m n k pins : ℕ) (d : Device) → Ranges d → P d → m ≤ room pins d → k + m ≤ n
+  find_stride : (m n k pins : ℕ) (d : Device) → Ranges d → P d → m ≤ room pins d → k + m ≤ n
       → first_cycle finds k (n - k) pins d ≡ first_cycle finds (k + m) (n - (k + m)) pins (cycles m pins d)
-  find-stride m n k pins d r p h w =
-      ap (λ (j : ℕ). first_cycle finds k j pins d) (omega arith) ∙ find-add m (n - (k + m)) k pins d r p h
+  find_stride m n k pins d r p h w =
+      ap (λ (j : ℕ). first_cycle finds k j pins d) (omega arith) ∙ find_add m (n - (k + m)) k pins d r p h
 
   -- and none where Timer 1's reload is all that happens
-  pub find-idle : (k n pins : ℕ) (d : Device) → Ranges d → P d → Idle (pins_of d.kind pins) d → first_cycle finds k n pins d ≡ Nothing
+  pub find_idle : (k n pins : ℕ) (d : Device) → Ranges d → P d → Idle (pins_of d.kind pins) d → first_cycle finds k n pins d ≡ Nothing
   unfolding first_cycle
-  find-idle k zero pins d r p f = refl
-  find-idle k (suc n) pins d r p f =
-      let none = hears.silence d (cycle_of pins d) (cycle-silent pins d r f) p in
+  find_idle k zero pins d r p f = refl
+  find_idle k (suc n) pins d r p f =
+      let none = hears.silence d (cycle_of pins d) (cycle_silent pins d r f) p in
       rw none
-      (find-idle (suc k) n pins (cycle_of pins d) (cycle-ranges d r pins) (hears.goes_on d (cycle_of pins d) none) (cycle-idle pins d r f))
+      (find_idle (suc k) n pins (cycle_of pins d) (cycle_ranges d r pins) (hears.goes_on d (cycle_of pins d) none) (cycle_idle pins d r f))
 
 -- The invariant of a loop that looks, `first_cycle finds k (n - k) pins d ≡ v`, at each of its ways on
 module _ (finds : Device → Device → Bool) (k n pins : ℕ) (d : Device) {v : LookAnswer} (inv : first_cycle finds k (n - k) pins d ≡ v) where
-  pub on-here : {u : Device} → k < n → u ≡ cycle_of pins d → finds d u ≡ true → At (k + 1) ≡ v
-  on-here h e r = sym (find-here finds k (n - k) pins d (omega arith) (sym (ap (finds d) e) ∙ r)) ∙ inv
+  pub on_here : {u : Device} → k < n → u ≡ cycle_of pins d → finds d u ≡ true → At (k + 1) ≡ v
+  on_here h e r = sym (find_here finds k (n - k) pins d (omega arith) (sym (ap (finds d) e) ∙ r)) ∙ inv
 
   pub on_one : {u : Device} → k < n → u ≡ cycle_of pins d → finds d u ≡ false → first_cycle finds (k + 1) (n - (k + 1)) pins u ≡ v
   on_one h e r =
-      ap (first_cycle finds (k + 1) (n - (k + 1)) pins) e ∙ (sym (find-later finds k n pins d h (sym (ap (finds d) e) ∙ r)) ∙ inv)
+      ap (first_cycle finds (k + 1) (n - (k + 1)) pins) e ∙ (sym (find_later finds k n pins d h (sym (ap (finds d) e) ∙ r)) ∙ inv)
 
-  pub on-stride : {P : Device → Type 0} → Hears finds P → (m : ℕ) {u : Device} → Ranges d → P d → m ≤ room pins d → k + m ≤ n
+  pub on_stride : {P : Device → Type 0} → Hears finds P → (m : ℕ) {u : Device} → Ranges d → P d → m ≤ room pins d → k + m ≤ n
       → u ≡ cycles m pins d → first_cycle finds (k + m) (n - (k + m)) pins u ≡ v
-  on-stride hears m r p h w e = ap (first_cycle finds (k + m) (n - (k + m)) pins) e ∙ (sym (find-stride hears m n k pins d r p h w) ∙ inv)
+  on_stride hears m r p h w e = ap (first_cycle finds (k + m) (n - (k + m)) pins) e ∙ (sym (find_stride hears m n k pins d r p h w) ∙ inv)
 
   pub on_none : n ≤ k → Nothing ≡ v
   on_none h = sym (find_none finds k (n - k) pins d (omega arith)) ∙ inv

@@ -12,7 +12,7 @@ use Rattle.machine.specs.Record.{accepted, pins_of}
 use Rattle.machine.specs.Cycle.{cycle_of, cycles}
 use Rattle.machine.specs.Calls.{first_cycle}
 use Rattle.machine.proofs.Choices.{clash}
-use Rattle.record.proofs.Accepted.{ranges-of}
+use Rattle.record.proofs.Accepted.{ranges_of}
 use Rattle.strides.specs.Stride.{room, room_at}
 use Rattle.strides.proofs.Runs.{cycles_one}
 use Rattle.strides.proofs.Silent.{Silent, quiet_silent}
@@ -20,49 +20,49 @@ use Rattle.reload.specs.Reload.{idles_at}
 use Rattle.reload.proofs.Alone.{idles_idle}
 use Rattle.jump.specs.declared.Round.{Round}
 use Rattle.jump.specs.Rounds.{Ready, Crossed}
-use Rattle.jump.proofs.Idles.{idles-here}
-use Rattle.jump.proofs.Rounds.{ran, within_room, used-busy, used-quiet}
-use Rattle.looks.proofs.Looks.{Hears, find-quiet, find-idle, on-here, on_one, on-stride}
+use Rattle.jump.proofs.Idles.{idles_here}
+use Rattle.jump.proofs.Rounds.{ran, within_room, used_busy, used_quiet}
+use Rattle.looks.proofs.Looks.{Hears, find_quiet, find_idle, on_here, on_one, on_stride}
 
 module _ {finds : Device → Device → Bool} {P : Device → Type 0} (hears : Hears finds P) where
   -- no cycle is found in a quiet run to the end, nor where Timer 1's reload is all that happens
-  pub quiet-look : (pins left : ℕ) (d : Device) (y : Ready pins d) → P d → {n : ℕ} → n ≡ room_at pins d → left ≤ n
+  pub quiet_look : (pins left : ℕ) (d : Device) (y : Ready pins d) → P d → {n : ℕ} → n ≡ room_at pins d → left ≤ n
       → (k : ℕ) {v : LookAnswer} → first_cycle finds k left pins d ≡ v → Nothing ≡ v
-  quiet-look pins left d y p e h k i =
-      sym (find-quiet hears left k pins d (ranges-of d y.good) p (within_room pins left d y e h)) ∙ i
+  quiet_look pins left d y p e h k i =
+      sym (find_quiet hears left k pins d (ranges_of d y.good) p (within_room pins left d y e h)) ∙ i
 
-  pub idle-look : (pins : ℕ) (d : Device) (y : Ready pins d) → P d → {b : Bool} → b ≡ idles_at pins d → b ≡ true
+  pub idle_look : (pins : ℕ) (d : Device) (y : Ready pins d) → P d → {b : Bool} → b ≡ idles_at pins d → b ≡ true
       → (k n : ℕ) {v : LookAnswer} → first_cycle finds k n pins d ≡ v → Nothing ≡ v
-  idle-look pins d y p q t k n i =
-      sym (find-idle hears k n pins d (ranges-of d y.good) p (idles_idle (pins_of d.kind pins) d (idles-here pins d y q t))) ∙ i
+  idle_look pins d y p q t k n i =
+      sym (find_idle hears k n pins d (ranges_of d y.good) p (idles_idle (pins_of d.kind pins) d (idles_here pins d y q t))) ∙ i
 
   -- A round, after k of the n cycles
   module _ (k n pins : ℕ) (d : Device) (h : k < n) {sum : Totals} {r : Round} (c : Crossed pins (n - k) (ran sum d) r) where
-    busy-cycle : room pins d ≡ 0 → r.run.device ≡ cycle_of pins d
-    busy-cycle z = c.reaches ∙ (ap (λ (m : ℕ). cycles m pins d) (c.used ∙ used-busy pins (n - k) d z) ∙ cycles_one pins d)
+    busy_cycle : room pins d ≡ 0 → r.run.device ≡ cycle_of pins d
+    busy_cycle z = c.reaches ∙ (ap (λ (m : ℕ). cycles m pins d) (c.used ∙ used_busy pins (n - k) d z) ∙ cycles_one pins d)
 
     -- it is found: so is the round's one cycle
-    pub look-here : {v : LookAnswer} → accepted d ≡ true → P d → first_cycle finds k (n - k) pins d ≡ v
+    pub look_here : {v : LookAnswer} → accepted d ≡ true → P d → first_cycle finds k (n - k) pins d ≡ v
         → finds d r.run.device ≡ true → At (k + r.used) ≡ v
-    look-here {v} a p inv e = go (room pins d) refl
+    look_here {v} a p inv e = go (room pins d) refl
       where
         go : (m : ℕ) → room pins d ≡ m → At (k + r.used) ≡ v
         go zero z =
-            ap (λ (m : ℕ). At (k + m)) (c.used ∙ used-busy pins (n - k) d z) ∙ on-here finds k n pins d inv h (busy-cycle z) e
+            ap (λ (m : ℕ). At (k + m)) (c.used ∙ used_busy pins (n - k) d z) ∙ on_here finds k n pins d inv h (busy_cycle z) e
         go (suc m) z =
-            let q = used-quiet pins (n - k) d (omega arith) in
-            let s = quiet_silent r.used pins d (ranges-of d a) (omega (arith, c.used)) in
+            let q = used_quiet pins (n - k) d (omega arith) in
+            let s = quiet_silent r.used pins d (ranges_of d a) (omega (arith, c.used)) in
             absurd (clash e (hears.silence d r.run.device (subst (Silent d) (sym c.reaches) s) p))
 
     -- it is not: the look goes on after the round
-    pub look-on : {v : LookAnswer} → accepted d ≡ true → P d → first_cycle finds k (n - k) pins d ≡ v
+    pub look_on : {v : LookAnswer} → accepted d ≡ true → P d → first_cycle finds k (n - k) pins d ≡ v
         → finds d r.run.device ≡ false → first_cycle finds (k + r.used) (n - (k + r.used)) pins r.run.device ≡ v
-    look-on {v} a p inv e = go (room pins d) refl
+    look_on {v} a p inv e = go (room pins d) refl
       where
         go : (m : ℕ) → room pins d ≡ m → first_cycle finds (k + r.used) (n - (k + r.used)) pins r.run.device ≡ v
         go zero z =
-            ap (λ (m : ℕ). first_cycle finds (k + m) (n - (k + m)) pins r.run.device) (c.used ∙ used-busy pins (n - k) d z)
-            ∙ on_one finds k n pins d inv h (busy-cycle z) e
+            ap (λ (m : ℕ). first_cycle finds (k + m) (n - (k + m)) pins r.run.device) (c.used ∙ used_busy pins (n - k) d z)
+            ∙ on_one finds k n pins d inv h (busy_cycle z) e
         go (suc m) z =
-            let q = used-quiet pins (n - k) d (omega arith) in
-            on-stride finds k n pins d inv hears r.used (ranges-of d a) p (omega (arith, c.used)) (omega (arith, c.used)) c.reaches
+            let q = used_quiet pins (n - k) d (omega arith) in
+            on_stride finds k n pins d inv hears r.used (ranges_of d a) p (omega (arith, c.used)) (omega (arith, c.used)) c.reaches

@@ -20,11 +20,11 @@ find_taken finds k (suc n) pins d =
 
 -- what is called with a pin byte as the kind takes it promises the same of the one that is given
 module _ (pins : ℕ) (d : Device) {l : ℕ} (e : l ≡ pins_of d.kind pins) where
-  find-given : (finds : Device → Device → Bool) (n : ℕ) → first_cycle finds 0 n l d ≡ first_cycle finds 0 n pins d
-  find-given finds n = ap (λ (p : ℕ). first_cycle finds 0 n p d) e ∙ find_taken finds 0 n pins d
+  find_given : (finds : Device → Device → Bool) (n : ℕ) → first_cycle finds 0 n l d ≡ first_cycle finds 0 n pins d
+  find_given finds n = ap (λ (p : ℕ). first_cycle finds 0 n p d) e ∙ find_taken finds 0 n pins d
 
-  pub rise-taken : (n : ℕ) {v : LookAnswer} → v ≡ first_rise n l d → v ≡ first_rise n pins d
-  rise-taken n q = q ∙ find-given _ n
+  pub rise_taken : (n : ℕ) {v : LookAnswer} → v ≡ first_rise n l d → v ≡ first_rise n pins d
+  rise_taken n q = q ∙ find_given _ n
 
-  pub offer-taken : (n : ℕ) {v : LookAnswer} → v ≡ first_offer n l d → v ≡ first_offer n pins d
-  offer-taken n q = q ∙ ap (cond (offers_to d) (At 0)) (find-given wakes n)
+  pub offer_taken : (n : ℕ) {v : LookAnswer} → v ≡ first_offer n l d → v ≡ first_offer n pins d
+  offer_taken n q = q ∙ ap (cond (offers_to d) (At 0)) (find_given wakes n)

@@ -92,11 +92,11 @@ module _ (d : Device) (ok : accepted d ≡ true) where
   lists = and_right (hidden_ok (hidden_fields d)) _ others
 
   -- the hidden fields, the saved levels, and the flag times
-  pub hidden-most : Each Most (hidden_fields d)
-  hidden-most = hidden_each (hidden_fields d) (and_left (hidden_ok (hidden_fields d)) _ others)
+  pub hidden_most : Each Most (hidden_fields d)
+  hidden_most = hidden_each (hidden_fields d) (and_left (hidden_ok (hidden_fields d)) _ others)
 
-  pub levels-ok : levels_ok d.levels ≡ true
-  levels-ok = and_left (levels_ok d.levels) _ lists
+  pub levels_ok_lem : levels_ok d.levels ≡ true
+  levels_ok_lem = and_left (levels_ok d.levels) _ lists
 
-  pub times-ok : times_ok d.times ≡ true
-  times-ok = and_right (levels_ok d.levels) _ lists
+  pub times_ok_lem : times_ok d.times ≡ true
+  times_ok_lem = and_right (levels_ok d.levels) _ lists

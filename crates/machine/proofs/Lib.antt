@@ -4,3 +4,4 @@ pub mod Counting
 pub mod Overflowing
 pub mod Rollovers
 pub mod Rounds
+pub mod Files

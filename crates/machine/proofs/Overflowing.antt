@@ -61,18 +61,18 @@ counts_few each t h =
     (chosen (λ (n : ℕ). n ≤ each) (eqb t.due2 1) 1 0 h (omega arith))
 
 module _ (t : Timer2) (count : count2 t < 65536) where
-  counted-few : (each reload : ℕ) → 1 ≤ each → reload < 65536 → (counted2 each reload t).overflows ≤ each
+  counted_few : (each reload : ℕ) → 1 ≤ each → reload < 65536 → (counted2 each reload t).overflows ≤ each
   unfolding counted2
-  counted-few each reload h r =
+  counted_few each reload h r =
       omega (arith, times_few (counts_of2 each t) reload (record { count = count2 t; overflows = 0 }) r count, counts_few each t h)
 
-  pub timer2-few : (fell : ℕ) → rcap2 t < 65536 → (timer2_step t fell).overflows ≤ 6
+  pub timer2_few : (fell : ℕ) → rcap2 t < 65536 → (timer2_step t fell).overflows ≤ 6
   unfolding timer2_step baud_step capture_step
-  timer2-few fell r =
+  timer2_few fell r =
       let Few : Timer2Counted → Type 0 = λ s. s.overflows ≤ 6 in
       let reload = cond (captures t) 0 (rcap2 t) in
       let below = chosen (λ (n : ℕ). n < 65536) (captures t) 0 (rcap2 t) (lit< tt) r in
       chosen Few (eqb (bit TR2 t.t2con) 1) _ _
-      (chosen Few (baud_rate t) (baud_step t fell) (capture_step t fell) (le_trans (counted-few _ (rcap2 t) (lit≤ tt) r) (lit≤ tt))
-      (le_trans (counted-few _ reload (lit≤ tt) below) (lit≤ tt)))
+      (chosen Few (baud_rate t) (baud_step t fell) (capture_step t fell) (le_trans (counted_few _ (rcap2 t) (lit≤ tt) r) (lit≤ tt))
+      (le_trans (counted_few _ reload (lit≤ tt) below) (lit≤ tt)))
       (lit≤ tt)

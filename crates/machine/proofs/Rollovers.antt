@@ -21,9 +21,9 @@ use Rattle.machine.specs.Cycle.{falls, counted, ticks_in, steps, cycle_of}
 use Rattle.machine.specs.Calls.{value_in}
 use Rattle.machine.specs.Rollovers.{send_rollovers, receive_rollovers, ticks_of_cycle, handed_on, sent_in, rxd_in, received_in, most_ticks, FewTicks, AtMostOneRollover}
 use Rattle.machine.proofs.Choices.{chosen, cond_has, cond_ap, by_test}
-use Rattle.machine.proofs.Accepted.{Each, Most, byte, hidden-most}
+use Rattle.machine.proofs.Accepted.{Each, Most, byte, hidden_most}
 use Rattle.machine.proofs.Accepted.Each.{◌&◌}
-use Rattle.machine.proofs.Overflowing.{timer1_once, timer2-few}
+use Rattle.machine.proofs.Overflowing.{timer1_once, timer2_few}
 
 -- Step 4
 
@@ -54,11 +54,11 @@ module _ (d : Device) (a : accepted d ≡ true) (l : ℕ) where
       let th2 = byte d a TH2 in
       let rcap2l = byte d a RCAP2L in
       let rcap2h = byte d a RCAP2H in
-      timer2-few d.timer2 (omega arith) (falls d.levels l T2EX) (omega arith)
+      timer2_few d.timer2 (omega arith) (falls d.levels l T2EX) (omega arith)
 
-  pub few-ticks : FewTicks (ticks_in d (counted d l))
+  pub few_ticks : FewTicks (ticks_in d (counted d l))
   unfolding ticks_in counted S.serial_ticks
-  few-ticks =
+  few_ticks =
       let m = serial_mode d.serial.scon in
       let smod = bit SMOD d.pcon in
       let by1 = ticks1_few smod d.serial.half _ one in
@@ -216,8 +216,8 @@ one_rollover pins d a =
     let k = ticks_of_cycle pins d in
     let s = handed_on pins d in
     let u = sent_in pins d in
-    let few = few-ticks d a (pins_of d.kind pins) in
-    let c = counters d (hidden-most d a) in
+    let few = few_ticks d a (pins_of d.kind pins) in
+    let c = counters d (hidden_most d a) in
     let same : u.receive.counter ≡ s.receive.counter = ap (λ (r : Receiver). r.counter) (send_receives k.send s) in
     let i = send_rolls k.send s c.send in
     let j = receive_rolls k.receive (rxd_in pins d) u (omega (arith, c.receive)) in

@@ -866,10 +866,10 @@ joined (rs ∷ more) = rs ++ joined more
 
 -- the rows that are looked at before the others: none. A must-fail edit puts the rows of its card here, which the checker then comes to
 -- at once, and not after all the others that hold
-foremost : List Row
+pub foremost : List Row
 foremost = []
 
-cards : List Row
+pub cards : List Row
 cards =
     foremost
     ++ joined (
@@ -971,11 +971,11 @@ unfoldable pub failing_by : {A : Type 0} → (A → ℕ) → (A → Bool) → Li
 failing_by card holds [] = []
 failing_by card holds (r ∷ rs) = cond (holds r) (failing_by card holds rs) (card r ∷ failing_by card holds rs)
 
-failing : List Row → List ℕ
+pub failing : List Row → List ℕ
 failing = failing_by (λ (r : Row). r.card) (λ (r : Row). r.test (run r.calls r.start))
 
 -- no row fails
-cards_hold : failing cards ≡ []
+pub cards_hold : failing cards ≡ []
 unfolding same same_value same_reply same_replies shorn without_rounds row_by row_from card1 card2 card3 card4 baud2 card5 card5counted mode1send card6 card6half card7 card8 card8shift card9 card10 card11 card12 card12line card13 card14 card15 card16 timer2_at card17 card17by card17counter card18 card18both card19 card20 card20counter card21 card21again card22 card23 placed rose never_rose timer0_near card24 card25 card26 card26again singles ways card27 timed card28 card29 card29reset card30 bad good card31 card32 card33 card33reload card34 card35 card36 card37 card38 card39 card40 card41 card42 both joined foremost cards failing failing_by table implemented_in implemented registers hidden_fields accepted pins_of levels_of zeros reset_of count13 count16 reload8 count8 hold enabled clocked count_in flagged counts0 counts1 counts_high0 pair0 high0 high_overflow0 pair1 timer_flags timers_step count_once count_times baud_rate counts_of2 heeds_t2ex captures counted2 baud_step copied2 capture_step timer2_step half_after ticks1 ticks_of serial_ticks send_move send_tick send_ticks send line_of start_found receive_start receive_rolled receive_counted votes_added bit_of frame_done receive_bit receive_work receive_tick receive_ticks receive_shift receive serial_step write_sbuf receive_asked write_scon external either seen_of first_of choice offered in_service taken returned falls counted externals timers_after timer2_after ticks_in steps_of cycle_of cycles reset_answer value_in register_at read_answer stored write_answer cycle_answer cycles_fault jump_answer entry_fault first_bad trace_fault trace_cycles totals_next totals overflows working watched busy marks busy_cycles quiet_runs rounds trace_totals trace_answer flags any_rises risen noted times_after pairs_ok never first_cycle look_answer wake_answer offer_of offer_answer take_of take_answer return_answer play run
 cards_hold = refl
 
@@ -985,6 +985,3 @@ pub data Held : Type 0 where
 
 pub marked : {failed : List ℕ} → failed ≡ [] → Held
 marked p = held
-
-pub cards_held : Held
-cards_held = marked cards_hold

@@ -1,4 +1,5 @@
--- Cards of the checkpoint (document 02, request Eight): a file byte by byte, what it loads as, and every refusal.
+-- Cards of the checkpoint (document 02, request Eight): a file byte by byte, what it loads as, and every refusal. They hold by
+-- computation (proofs/Files.antt).
 use Rattle.std.specs.Prelude.{ℕ, ◌+◌, ◌-◌, ◌*◌, ◌≡◌, refl, cond, List, [], ◌∷◌, ◌++◌, eqb, length, take, set, replicate}
 use Rattle.machine.specs.declared.Device.{Device}
 use Rattle.machine.specs.Registers.{table, implemented_in, implemented}
@@ -6,10 +7,10 @@ use Rattle.machine.specs.Times.{pairs_ok, never}
 use Rattle.machine.specs.Record.{registers, hidden_fields, accepted, blank, zeros}
 use Rattle.machine.specs.Checkpoint.{bytes_of, number_of, times_listed, values_of, device_with, joined, section, register_entries, number_entries, time_entries, layout, written, file_of, save_fault, save_answer, holds, judged, read_part, read_parts, finished, load_answer}
 use Rattle.machine.specs.Same.{same}
-use Rattle.machine.specs.Cards.{Held, marked, failing_by, cards_held}
+use Rattle.machine.specs.Cards.{failing_by}
 
 -- a device in which almost every value is another: 3 is the serial mode, so that position 11 is allowed
-sample : ℕ → Device
+unfoldable pub sample : ℕ → Device
 sample kind =
     let on52 : ℕ → ℕ = λ n. cond (eqb kind 51) 0 n in
     record {
@@ -44,7 +45,7 @@ one b = b ∷ 0 ∷ 0 ∷ 0 ∷ 0 ∷ 0 ∷ 0 ∷ 0 ∷ []
 abbrev two : ℕ → ℕ → List ℕ
 two low high = low ∷ high ∷ 0 ∷ 0 ∷ 0 ∷ 0 ∷ 0 ∷ 0 ∷ []
 
-registers_in : List ℕ
+unfoldable pub registers_in : List ℕ
 registers_in =
     0x87 ∷ 0x83 ∷ 0x88 ∷ 0x51 ∷ 0x89 ∷ 0x62 ∷ 0x8a ∷ 0x0a ∷ 0x8b ∷ 0x0b ∷ 0x8c ∷ 0x0c ∷ 0x8d ∷ 0xfd
     ∷ 0x98 ∷ 0xf2 ∷ 0x99 ∷ 0xc3 ∷ 0xa8 ∷ 0x92 ∷ 0xb8 ∷ 0x15 ∷ []
@@ -54,7 +55,7 @@ abbrev bytes : List (List ℕ) → List ℕ
 bytes [] = []
 bytes (b ∷ more) = b ++ bytes more
 
-file : ℕ → List ℕ
+unfoldable pub file : ℕ → List ℕ
 file kind =
     bytes (
     cond (eqb kind 51) (11 ∷ registers_in)
@@ -117,7 +118,7 @@ abbrev row : ℕ → List ℕ → List ℕ → Row
 row card out says = record { card = card; out = out; says = says }
 
 -- a load: its code, and the kind and values of the device; a refused one gives the kind 0 record
-loaded : List ℕ → List ℕ
+unfoldable pub loaded : List ℕ → List ℕ
 loaded bytes = let a = load_answer bytes in a.code ∷ a.device.kind ∷ values_of a.device
 
 abbrev loads : ℕ → List ℕ → Device → Row
@@ -131,7 +132,7 @@ abbrev with : ℕ → ℕ → ℕ → List ℕ
 with kind at b = set (file kind) at b
 
 -- a save: its code, and the buffer
-saves : Device → List ℕ → List ℕ
+unfoldable pub saves : Device → List ℕ → List ℕ
 saves d buffer = let s = save_answer d buffer in s.code ∷ s.buffer
 
 -- bytes of a buffer
@@ -139,16 +140,16 @@ abbrev buffer : ℕ → List ℕ
 buffer n = replicate n 0x5a
 
 -- a card of each kind
-abbrev both : (ℕ → List Row) → List Row
+abbrev pub both : (ℕ → List Row) → List Row
 both rows = rows 51 ++ rows 52
 
 -- the file, byte by byte, and back
-cards1 : ℕ → List Row
+unfoldable pub cards1 : ℕ → List Row
 cards1 kind = row 1 (file_of (sample kind)) (file kind) ∷ loads 2 (file kind) (sample kind) ∷ []
 
 -- cut short: nothing, a count without an entry, an address without its value, inside a value, an ever without its number; and bytes left
 -- over, after all that is right
-cards3 : ℕ → List Row
+unfoldable pub cards3 : ℕ → List Row
 cards3 kind =
     refuses 3 [] 15
     ∷ refuses 3 (take 1 (file kind)) 15
@@ -161,7 +162,7 @@ cards3 kind =
     ∷ []
 
 -- another count or address: of each section, and the other kind's
-cards5 : ℕ → List Row
+unfoldable pub cards5 : ℕ → List Row
 cards5 kind =
     refuses 5 (with kind 0 12) 16
     ∷ refuses 5 (with kind 0 (cond (eqb kind 51) 16 11)) 16
@@ -172,7 +173,7 @@ cards5 kind =
 
 -- a value that number 1 would refuse: bits that are not implemented, a position of another mode, more than a field holds, in a byte past
 -- its field's too, a level, an ever, a never with a number
-cards6 : ℕ → List Row
+unfoldable pub cards6 : ℕ → List Row
 cards6 kind =
     refuses 6 (with kind 2 0x93) 17
     ∷ refuses 6 (with kind (hidden_at kind 0) 12) 17
@@ -186,7 +187,7 @@ cards6 kind =
     ∷ []
 
 -- a received byte that disagrees, in its low byte or in another, and an SBUF entry that does
-cards7 : ℕ → List Row
+unfoldable pub cards7 : ℕ → List Row
 cards7 kind =
     refuses 7 (with kind (hidden_at kind 9) 0xc2) 17
     ∷ refuses 7 (with kind (hidden_at kind 9 + 3) 1) 17
@@ -194,7 +195,7 @@ cards7 kind =
     ∷ []
 
 -- the first fault from the front: a value that is cut off is not judged, an ever is judged before its number, leftover bytes come last
-cards8 : ℕ → List Row
+unfoldable pub cards8 : ℕ → List Row
 cards8 kind =
     refuses 8 (take (hidden_at kind 0 + 1) (with kind (hidden_at kind 0) 12)) 15
     ∷ refuses 8 (take (time_at kind 0 + 1) (with kind (time_at kind 0) 2)) 17
@@ -204,7 +205,7 @@ cards8 kind =
     ∷ []
 
 -- a save into a buffer of its length; one of another stays as it was, and so it does for a bad record, which is judged first
-cards9 : ℕ → List Row
+unfoldable pub cards9 : ℕ → List Row
 cards9 kind =
     let whole = length (file kind) in
     row 9 (saves (sample kind) (buffer whole)) (0 ∷ file kind)
@@ -216,29 +217,12 @@ cards9 kind =
     ∷ []
 
 -- on kind 51 the T2 due mark is 0; the two lengths
-cards10 : List Row
+unfoldable pub cards10 : List Row
 cards10 =
     refuses 6 (with 51 (hidden_at 51 12) 1) 17
     ∷ row 10 (length (file 51) ∷ length (file 52) ∷ []) (297 ∷ 307 ∷ [])
     ∷ []
 
 -- the cards of the rows that fail
-failing : List Row → List ℕ
+unfoldable pub failing : List Row → List ℕ
 failing = failing_by (λ (r : Row). r.card) (λ (r : Row). same r.out r.says)
-
--- once the cards before them hold, the machine's and then these in their parts: where one fails, the rest is not computed
-given : {A : Type 0} → Held → A → A
-given h a = a
-
--- no row fails: in parts, since the checker takes so many steps at a time
-files_hold : failing (both cards1 ++ both cards9 ++ cards10) ≡ []
-unfolding cards1 cards9 cards10 failing failing_by sample registers_in file loaded saves same table implemented_in implemented pairs_ok never registers hidden_fields accepted blank zeros bytes_of number_of times_listed values_of device_with joined section register_entries number_entries time_entries layout written file_of save_fault save_answer holds judged read_part read_parts finished load_answer
-files_hold = given cards_held refl
-
-faults_hold : failing (cards3 52 ++ cards5 51 ++ cards5 52 ++ cards7 51 ++ cards8 52) ≡ []
-unfolding cards3 cards5 cards7 cards8 failing failing_by sample registers_in file loaded saves same table implemented_in implemented pairs_ok never registers hidden_fields accepted blank zeros bytes_of number_of times_listed values_of device_with joined section register_entries number_entries time_entries layout written file_of save_fault save_answer holds judged read_part read_parts finished load_answer
-faults_hold = given (marked files_hold) refl
-
-values_hold : failing (cards6 52) ≡ []
-unfolding cards6 failing failing_by sample registers_in file loaded saves same table implemented_in implemented pairs_ok never registers hidden_fields accepted blank zeros bytes_of number_of times_listed values_of device_with joined section register_entries number_entries time_entries layout written file_of save_fault save_answer holds judged read_part read_parts finished load_answer
-values_hold = given (marked faults_hold) refl

@@ -15,7 +15,7 @@ use Rattle.machine.specs.Record.{registers, hidden_fields, kind_ok, accepted, bl
 use Rattle.machine.specs.Times.{pairs_ok, never}
 use Rattle.machine.specs.Calls.{value_in}
 use Rattle.machine.proofs.Choices.{cond_has, by_test}
-use Rattle.machine.proofs.Accepted.{Each, Most, kind_ok_lem, bits, byte, hidden_every, hidden-most, levels-ok, times-ok}
+use Rattle.machine.proofs.Accepted.{Each, Most, kind_ok_lem, bits, byte, hidden_every, hidden_most, levels_ok_lem, times_ok_lem}
 use Rattle.machine.proofs.Accepted.Each.{done, ◌&◌}
 use Rattle.laws.specs.Ranges.{Ranges, Absent}
 use Rattle.laws.proofs.Bits.{lt_within}
@@ -62,9 +62,9 @@ module _ (d : Device) (ok : accepted d ≡ true) where
   gone a z e = none d.kind a (value_in (registers d) a) e z (bits d ok a)
 
   -- with each hidden field in its range, in document 01's order
-  ranges-with : Each Most (hidden_fields d) → Ranges d
+  ranges_with : Each Most (hidden_fields d) → Ranges d
   unfolding registers value_in hidden_fields implemented implemented_in table
-  ranges-with
+  ranges_with
       (sendPosition
       & sendValue
       & send_counter
@@ -143,14 +143,14 @@ module _ (d : Device) (ok : accepted d ≡ true) where
               low = low;
               high = high;
             };
-        levels = levels-ok d ok;
+        levels = levels_ok_lem d ok;
         cycle = omega (arith, cycle);
-        times = times-ok d ok;
+        times = times_ok_lem d ok;
       }
 
   -- an accepted record has each field in its range
-  pub ranges-of : Ranges d
-  ranges-of = ranges-with (hidden-most d ok)
+  pub ranges_of : Ranges d
+  ranges_of = ranges_with (hidden_most d ok)
 
 -- a record with each field in its range is accepted
 pub accepted_of : (d : Device) → Ranges d → accepted d ≡ true

@@ -15,7 +15,7 @@ use Rattle.laws.proofs.Bits.{and_twice}
 use Rattle.machine.proofs.Choices.{cond_has}
 use Rattle.serial.proofs.Ranges.{write_scon_ok, write_sbuf_ok}
 use Rattle.laws.specs.Ranges.{Absent, SerialOk, Ranges}
-use Rattle.record.proofs.Accepted.{ranges-of, accepted_of}
+use Rattle.record.proofs.Accepted.{ranges_of, accepted_of}
 
 module _ (d : Device) (a v : ℕ) (h : v < 256) (r : Ranges d) where
   -- the value that is stored: a byte, within the implemented bits at the address, and 0 where there are none
@@ -37,12 +37,12 @@ module _ (d : Device) (a v : ℕ) (h : v < 256) (r : Ranges d) where
   kept_byte : (n x : ℕ) → x < 256 → cond (eqb a n) value x < 256
   kept_byte n x l = cond_has (λ (w : ℕ). w < 256) (eqb a n) value x (λ e. byte) (λ e. l)
 
-  kept-bits : (n x : ℕ) → within (implemented d.kind n) x ≡ true → within (implemented d.kind n) (cond (eqb a n) value x) ≡ true
-  kept-bits n x l =
+  kept_bits : (n x : ℕ) → within (implemented d.kind n) x ≡ true → within (implemented d.kind n) (cond (eqb a n) value x) ≡ true
+  kept_bits n x l =
       cond_has (λ (w : ℕ). within (implemented d.kind n) w ≡ true) (eqb a n) value x (λ e. bits n (eqb-true a n e)) (λ e. l)
 
-  kept-gone : (n x : ℕ) → implemented d.kind n ≡ 0 → x ≡ 0 → cond (eqb a n) value x ≡ 0
-  kept-gone n x z l = cond_has (λ (w : ℕ). w ≡ 0) (eqb a n) value x (λ e. gone n (eqb-true a n e) z) (λ e. l)
+  kept_gone : (n x : ℕ) → implemented d.kind n ≡ 0 → x ≡ 0 → cond (eqb a n) value x ≡ 0
+  kept_gone n x z l = cond_has (λ (w : ℕ). w ≡ 0) (eqb a n) value x (λ e. gone n (eqb-true a n e) z) (λ e. l)
 
   -- on kind 51 no register of Timer 2 is implemented
   absent : d.kind ≡ 51 → Absent (stored d a value).timer2
@@ -51,32 +51,32 @@ module _ (d : Device) (a v : ℕ) (h : v < 256) (r : Ranges d) where
       let u = d.timer2 in
       let z = r.absent e in
       record {
-        t2con = kept-gone T2CON u.t2con (simp e) z.t2con;
-        rcap2l = kept-gone RCAP2L u.rcap2l (simp e) z.rcap2l;
-        rcap2h = kept-gone RCAP2H u.rcap2h (simp e) z.rcap2h;
-        tl2 = kept-gone TL2 u.tl2 (simp e) z.tl2;
-        th2 = kept-gone TH2 u.th2 (simp e) z.th2;
+        t2con = kept_gone T2CON u.t2con (simp e) z.t2con;
+        rcap2l = kept_gone RCAP2L u.rcap2l (simp e) z.rcap2l;
+        rcap2h = kept_gone RCAP2H u.rcap2h (simp e) z.rcap2h;
+        tl2 = kept_gone TL2 u.tl2 (simp e) z.tl2;
+        th2 = kept_gone TH2 u.th2 (simp e) z.th2;
         due2 = z.due2;
       }
 
-  serial-kept : SerialOk (stored d a value).serial
+  serial_kept : SerialOk (stored d a value).serial
   unfolding stored
-  serial-kept =
+  serial_kept =
       let s = d.serial in
       cond_has SerialOk (eqb a SCON) (write_scon value s) (cond (eqb a SBUF) (write_sbuf value s) s)
       (λ e. write_scon_ok value s byte r.serial)
       (λ e. cond_has SerialOk (eqb a SBUF) (write_sbuf value s) s (λ e. write_sbuf_ok value s byte r.serial) (λ e. r.serial))
 
-  stored-ranges : Ranges (stored d a value)
+  stored_ranges : Ranges (stored d a value)
   unfolding stored
-  stored-ranges =
+  stored_ranges =
       let t = d.timers in
       let u = d.timer2 in
       let i = d.interrupts in
       record {
         kind = r.kind;
         pcon = kept_byte PCON d.pcon r.pcon;
-        pcon_bits = kept-bits PCON d.pcon r.pcon_bits;
+        pcon_bits = kept_bits PCON d.pcon r.pcon_bits;
         timers =
             record {
               tcon = kept_byte TCON t.tcon r.timers.tcon;
@@ -98,13 +98,13 @@ module _ (d : Device) (a v : ℕ) (h : v < 256) (r : Ranges d) where
               due2 = r.timer2.due2;
             };
         absent = absent;
-        serial = serial-kept;
+        serial = serial_kept;
         interrupts =
             record {
               ie = kept_byte IE i.ie r.interrupts.ie;
-              ie_bits = kept-bits IE i.ie r.interrupts.ie_bits;
+              ie_bits = kept_bits IE i.ie r.interrupts.ie_bits;
               ip = kept_byte IP i.ip r.interrupts.ip;
-              ip_bits = kept-bits IP i.ip r.interrupts.ip_bits;
+              ip_bits = kept_bits IP i.ip r.interrupts.ip_bits;
               seen = r.interrupts.seen;
               polled = r.interrupts.polled;
               low = r.interrupts.low;
@@ -117,4 +117,4 @@ module _ (d : Device) (a v : ℕ) (h : v < 256) (r : Ranges d) where
 
 -- at an address that the kind lacks nothing is stored, or 0 where 0 stood: so this holds at every address
 pub write_accepted : (d : Device) (a v : ℕ) → v < 256 → accepted d ≡ true → accepted (stored d a (kept d.kind a v)) ≡ true
-write_accepted d a v h ok = accepted_of (stored d a (kept d.kind a v)) (stored-ranges d a v h (ranges-of d ok))
+write_accepted d a v h ok = accepted_of (stored d a (kept d.kind a v)) (stored_ranges d a v h (ranges_of d ok))

@@ -2,7 +2,7 @@
 use Rattle.std.proofs.Common.{◌≡◌, ℕ, zero, suc, ◌+◌, ◌-◌, ◌<◌, ◌≤◌, min, false, eqb, leb, sym, refl, ap, ◌∙◌, inl, inr, add-zero, add-sub_of_le, suc-add, zero-add, arith, eq-eqb, ne_eqb, leb-false, leb-true}
 use Rattle.machine.proofs.Choices.{by_test}
 use Rattle.machine.specs.Rounds.{busy_cycles, quiet_runs, rounds_of}
-use Rattle.laws.proofs.Rounds.{Marked, busy-round, quiet-round}
+use Rattle.laws.proofs.Rounds.{Marked, busy_round, quiet_round}
 use Rattle.reload.specs.Reload.{Idling, reloaded, raised, idle_cycle, idle_cycles, idle_marks, Rounded}
 use Rattle.reload.specs.declared.Clocking.{Clocking}
 
@@ -35,7 +35,7 @@ over_counts : (k : Clocking) (x : Idling) (left : ℕ) → x.tl1 ≡ 255 → 1 �
 over_counts k x zero e h = absurd (omega arith)
 over_counts k x (suc n) e h =
     let less : n ≡ suc n - 1 = omega arith in
-    busy-round (idle_marked k) n x (eq-eqb x.tl1 255 e) ∙ ap (λ (m : ℕ). suc (rounds_of (idle_marks m k (idle_cycles 1 k x)))) less
+    busy_round (idle_marked k) n x (eq-eqb x.tl1 255 e) ∙ ap (λ (m : ℕ). suc (rounds_of (idle_marks m k (idle_cycles 1 k x)))) less
 
 up_counts : (m : ℕ) (k : Clocking) (x : Idling) (left : ℕ) → x.tl1 < 255 → 1 ≤ left → m ≡ min (255 - x.tl1) left
     → rounds_of (idle_marks left k x) ≡ suc (rounds_of (idle_marks (left - m) k (idle_cycles m k x)))
@@ -43,7 +43,7 @@ up_counts zero k x left g h e = absurd (omega arith)
 up_counts (suc m) k x left g h e =
     let whole : left ≡ suc (m + (left - suc m)) = omega arith in
     ap (λ (n : ℕ). rounds_of (idle_marks n k x)) whole
-    ∙ quiet-round (idle_marked k) m (left - suc m) x
+    ∙ quiet_round (idle_marked k) m (left - suc m) x
     (λ j less. ne_eqb (idle_cycles j k x).tl1 255 (λ z. omega (arith, raised_count j k x (omega arith))))
     (by_test (leb left (255 - x.tl1)) (λ t. inl (omega (arith, leb-true left (255 - x.tl1) t)))
     (λ t. inr (eq-eqb (idle_cycles (suc m) k x).tl1 255 (omega (arith, leb-false left (255 - x.tl1) t, raised_count (suc m) k x (omega arith))))))
@@ -112,5 +112,5 @@ module _ {k : Clocking} {n : ℕ} {start x : Idling} {left done : ℕ} (g : Goin
     pub going_end : x ≡ idle_cycles n k start
     going_end = sym (idle_none left k x none) ∙ g.ends
 
-    pub going-count : done ≡ rounds_of (idle_marks n k start)
-    going-count = omega (arith, g.counts, rounds_none left k x none)
+    pub going_count : done ≡ rounds_of (idle_marks n k start)
+    going_count = omega (arith, g.counts, rounds_none left k x none)

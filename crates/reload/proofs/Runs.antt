@@ -13,8 +13,8 @@ use Rattle.machine.specs.Cycle.{cycle_of, cycles}
 use Rattle.machine.specs.Rounds.{busy, marks, rounds_of, rounds}
 use Rattle.laws.specs.Ranges.{Ranges}
 use Rattle.machine.proofs.Choices.{chosen, by_test, and_right, and_both}
-use Rattle.cycle.proofs.Keeps.{cycle-ranges}
-use Rattle.cycle.proofs.Steps.{cycle-up}
+use Rattle.cycle.proofs.Keeps.{cycle_ranges}
+use Rattle.cycle.proofs.Steps.{cycle_up}
 use Rattle.strides.specs.Stride.{timers_settled, serial_settled, others_settled, settled_at, left, room}
 use Rattle.laws.proofs.Flags.{never_both}
 use Rattle.strides.proofs.Runs.{number_none, number_more}
@@ -67,27 +67,27 @@ module _ (pins : ℕ) (d : Device) (r : Ranges d) (f : Idle (pins_of d.kind pins
       let l = pins_of d.kind pins in
       put_idling ((d.cycle + 1) % 2 ^ 64) (idle_cycle (clocking_of l d) (idling_of d)) d
 
-  pub cycle-next : cycle_of pins d ≡ next
+  pub cycle_next : cycle_of pins d ≡ next
   unfolding next
-  cycle-next = cycle-up pins d f.rest.awake ∙ steps_idle (pins_of d.kind pins) d r f
+  cycle_next = cycle_up pins d f.rest.awake ∙ steps_idle (pins_of d.kind pins) d r f
 
-  next-idle : Idle (pins_of next.kind pins) next
+  next_idle : Idle (pins_of next.kind pins) next
   unfolding next start_found clocking_of put_idling
-  next-idle =
+  next_idle =
       let l = pins_of d.kind pins in
       put_idle l ((d.cycle + 1) % 2 ^ 64) (idle_cycle (clocking_of l d) (idling_of d)) d f
       (cycle_starts (eqb (bit REN d.serial.scon) 1) (clocking_of l d) (idling_of d) f.starts)
 
-  pub cycle-idle : Idle (pins_of (cycle_of pins d).kind pins) (cycle_of pins d)
-  cycle-idle = subst (λ (e : Device). Idle (pins_of e.kind pins) e) (sym cycle-next) next-idle
+  pub cycle_idle : Idle (pins_of (cycle_of pins d).kind pins) (cycle_of pins d)
+  cycle_idle = subst (λ (e : Device). Idle (pins_of e.kind pins) e) (sym cycle_next) next_idle
 
   -- it is silent
-  next-silent : Silent d next
+  next_silent : Silent d next
   unfolding flags next put_idling
-  next-silent = record { flags = refl; offers = refl }
+  next_silent = record { flags = refl; offers = refl }
 
-  pub cycle-silent : Silent d (cycle_of pins d)
-  cycle-silent = subst (Silent d) (sym cycle-next) next-silent
+  pub cycle_silent : Silent d (cycle_of pins d)
+  cycle_silent = subst (Silent d) (sym cycle_next) next_silent
 
 idle_cycles_lem : (n pins : ℕ) (d : Device) → Ranges d → Idle (pins_of d.kind pins) d
     → cycles n pins d ≡ idle_at n (pins_of d.kind pins) d
@@ -96,8 +96,8 @@ idle_cycles_lem zero pins d r f = λ i. put_idling (sym (number_none d.cycle r.c
 idle_cycles_lem (suc n) pins d r f =
     let l = pins_of d.kind pins in
     let k = clocking_of l d in
-    idle_cycles_lem n pins (cycle_of pins d) (cycle-ranges d r pins) (cycle-idle pins d r f)
-    ∙ (ap (λ (e : Device). idle_at n (pins_of e.kind pins) e) (cycle-next pins d r f)
+    idle_cycles_lem n pins (cycle_of pins d) (cycle_ranges d r pins) (cycle_idle pins d r f)
+    ∙ (ap (λ (e : Device). idle_at n (pins_of e.kind pins) e) (cycle_next pins d r f)
     ∙ (λ i. put_idling (number_more n d.cycle i) (idle_cycles n k (idle_cycle k (idling_of d))) d))
 
 -- n cycles of a device that idles
@@ -121,9 +121,9 @@ idle_marks_lem : (n pins : ℕ) (d : Device) → Ranges d → Idle (pins_of d.ki
 unfolding marks idle_marks next put_idling clocking_of
 idle_marks_lem zero pins d r f = refl
 idle_marks_lem (suc n) pins d r f =
-    let later = idle_marks_lem n pins (cycle_of pins d) (cycle-ranges d r pins) (cycle-idle pins d r f) in
+    let later = idle_marks_lem n pins (cycle_of pins d) (cycle_ranges d r pins) (cycle_idle pins d r f) in
     (λ i. idle_busy pins d r f i ∷ later i)
-    ∙ ap (λ (e : Device). eqb d.timers.tl1 255 ∷ idle_marks n (clocking_of (pins_of e.kind pins) e) (idling_of e)) (cycle-next pins d r f)
+    ∙ ap (λ (e : Device). eqb d.timers.tl1 255 ∷ idle_marks n (clocking_of (pins_of e.kind pins) e) (idling_of e)) (cycle_next pins d r f)
 
 pub idle_counted : (n pins : ℕ) (d : Device) → Ranges d → idles_at (pins_of d.kind pins) d ≡ true
     → rounds n pins d ≡ idle_rounds n (pins_of d.kind pins) d

@@ -23,8 +23,8 @@ use Rattle.receiver.proofs.Quiet.{sampled}
 use Rattle.serial.proofs.Sending.{send_counter}
 use Rattle.serial.proofs.Quiet.{rest_shift, rest_ticks}
 use Rattle.strides.proofs.Timers.{no_flags}
-use Rattle.strides.proofs.Serial.{quiet-serial, stride-still}
-use Rattle.strides.proofs.Steps.{steps-rest}
+use Rattle.strides.proofs.Serial.{quiet_serial, stride_still}
+use Rattle.strides.proofs.Steps.{steps_rest}
 use Rattle.reload.specs.Reload.{Idling, clocks, clocking_of, idling_of, reloaded, with_pair1, with_port, put_idling, raised, idle_cycle}
 use Rattle.reload.proofs.Alone.{Alone, Idle}
 
@@ -43,23 +43,23 @@ no_flag t = go (eqb (bit TF1 t.tcon) 1) (eqb (timer0_mode t) 3) refl
 
 module _ (l : ℕ) (t : Timers) (f : Alone l t) where
   -- from Timer 1's count
-  alone-step : (n o : ℕ) → reload8 t.tl1 t.th1 ≡ record { tl = n; th = t.th1; overflow = o } → timer_flags t 0 0 o ≡ t.tcon
+  alone_step : (n o : ℕ) → reload8 t.tl1 t.th1 ≡ record { tl = n; th = t.th1; overflow = o } → timer_flags t 0 0 o ≡ t.tcon
       → timers_step t l ≡ record { timers = with_pair1 n t.th1 t; overflow0 = 0; overflow_th0 = 0; overflow1 = o }
   unfolding timers_step pair0 pair1 count_in high0 high_overflow0 hold
-  alone-step n o e q = simp (f.low, f.high, f.counts, f.reloads, e, q)
+  alone_step n o e q = simp (f.low, f.high, f.counts, f.reloads, e, q)
 
-  step-over : t.tl1 ≡ 255
+  step_over : t.tl1 ≡ 255
       → timers_step t l ≡ record { timers = with_pair1 t.th1 t.th1 t; overflow0 = 0; overflow_th0 = 0; overflow1 = 1 }
   unfolding reload8
-  step-over e = alone-step t.th1 1 (simp e) (no_flag t f.flag)
+  step_over e = alone_step t.th1 1 (simp e) (no_flag t f.flag)
 
-  step-up : t.tl1 < 255
+  step_up : t.tl1 < 255
       → timers_step t l ≡ record { timers = with_pair1 (t.tl1 + 1) t.th1 t; overflow0 = 0; overflow_th0 = 0; overflow1 = 0 }
   unfolding reload8
-  step-up h =
+  step_up h =
       let o : (t.tl1 + 1) / 256 ≡ 0 = omega arith in
       let n : (t.tl1 + 1) % 256 ≡ t.tl1 + 1 = omega arith in
-      alone-step (t.tl1 + 1) 0 (simp (o, n)) (no_flags t)
+      alone_step (t.tl1 + 1) 0 (simp (o, n)) (no_flags t)
 
 -- Step 3
 
@@ -79,10 +79,10 @@ ticks_by mode smod clock by1 z e = simp (z, e) (go (eqb clock 1))
     go false = refl
 
 module _ (l : ℕ) (d : Device) (o : SerialOk d.serial) (f : Idle l d) where
-  port-over : serial_step (serial_ticks d.pcon d.timer2.t2con d.serial 1 0) (bit RXD l) d.serial
+  port_over : serial_step (serial_ticks d.pcon d.timer2.t2con d.serial 1 0) (bit RXD l) d.serial
       ≡ with_port (reloaded (clocking_of l d) (idling_of d)) d.serial
   unfolding serial_ticks reloaded clocking_of clocks
-  port-over = by_test (eqb mode 0) shifts moves
+  port_over = by_test (eqb mode 0) shifts moves
     where
       s : Serial
       s = d.serial
@@ -114,11 +114,11 @@ module _ (l : ℕ) (d : Device) (o : SerialOk d.serial) (f : Idle l d) where
           ∙ ((λ i. sampled (cond (eqb (by RCLK z i) 0) s.receive.sample (bit RXD l)) (send_counter ((s.send.counter + by TCLK z i) % 16) (with_half k.half s)))
           ∙ simp z)
 
-  port-still : serial_step (serial_ticks d.pcon d.timer2.t2con d.serial 0 0) (bit RXD l) d.serial ≡ d.serial
-  port-still =
+  port_still : serial_step (serial_ticks d.pcon d.timer2.t2con d.serial 0 0) (bit RXD l) d.serial ≡ d.serial
+  port_still =
       let s = d.serial in
-      quiet-serial d.pcon d.timer2.t2con s o (bit RXD l) f.rest.sends f.rest.receives f.rest.starts
-      ∙ stride-still (bit SMOD d.pcon) (bit RXD l) s 1 o f.two
+      quiet_serial d.pcon d.timer2.t2con s o (bit RXD l) f.rest.sends f.rest.receives f.rest.starts
+      ∙ stride_still (bit SMOD d.pcon) (bit RXD l) s 1 o f.two
 
 -- Steps 1 to 8
 
@@ -132,14 +132,14 @@ module _ (l : ℕ) (d : Device) (f : Idle l d) (x : Idling) (o : ℕ)
         timer2 = record { timer2 = d.timer2; overflows = 0; tf2 = 0 };
       }
 
-  counted-idle : counted d l ≡ steps23
+  counted_idle : counted d l ≡ steps23
   unfolding counted steps23
-  counted-idle = λ i. record { timers = step2 i; timer2 = stopped d.timer2 (falls d.levels l T2EX) f.stops i }
+  counted_idle = λ i. record { timers = step2 i; timer2 = stopped d.timer2 (falls d.levels l T2EX) f.stops i }
 
-  idle-steps : steps d l ≡ put_idling ((d.cycle + 1) % 2 ^ 64) x d
+  idle_steps : steps d l ≡ put_idling ((d.cycle + 1) % 2 ^ 64) x d
   unfolding put_idling ticks_in steps23
-  idle-steps =
-      steps-rest l d f.rest steps23 _ counted-idle step5
+  idle_steps =
+      steps_rest l d f.rest steps23 _ counted_idle step5
       (record { tcon = refl; due0 = refl; due1 = refl; t2con = refl; due2 = refl; scon = refl; tf2 = refl })
 
 pub steps_idle : (l : ℕ) (d : Device) → Ranges d → Idle l d
@@ -151,11 +151,11 @@ steps_idle l d r f = by_test (eqb d.timers.tl1 255) over up
         → steps d l ≡ put_idling ((d.cycle + 1) % 2 ^ 64) (idle_cycle (clocking_of l d) (idling_of d)) d
     over z =
         simp z
-        (idle-steps l d f (reloaded (clocking_of l d) (idling_of d)) 1 (step-over l d.timers f.alone (eqb-true d.timers.tl1 255 z)) (port-over l d r.serial f))
+        (idle_steps l d f (reloaded (clocking_of l d) (idling_of d)) 1 (step_over l d.timers f.alone (eqb-true d.timers.tl1 255 z)) (port_over l d r.serial f))
 
     up : eqb d.timers.tl1 255 ≡ false
         → steps d l ≡ put_idling ((d.cycle + 1) % 2 ^ 64) (idle_cycle (clocking_of l d) (idling_of d)) d
     up z =
         simp z
-        (idle-steps l d f (raised 1 (idling_of d)) 0
-        (step-up l d.timers f.alone (omega (arith, r.timers.tl1, eqb-false d.timers.tl1 255 z))) (port-still l d r.serial f))
+        (idle_steps l d f (raised 1 (idling_of d)) 0
+        (step_up l d.timers f.alone (omega (arith, r.timers.tl1, eqb-false d.timers.tl1 255 z))) (port_still l d r.serial f))

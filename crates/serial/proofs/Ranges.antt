@@ -80,17 +80,17 @@ pub half_kept : (h : ℕ) (s : Serial) → h ≤ 1 → SerialOk s → Kept (seri
 half_kept h s l o = record { scon = o.scon; mode = refl; send = o.send; receive = o.receive; half = l; received = o.received }
 
 module _ (k : Ticks) (rxd : ℕ) (s : Serial) (h : k.half ≤ 1) (o : SerialOk s) where
-  pub step-shift : serial_mode s.scon ≡ 0 → S.serial_step k rxd s ≡ S.receive_shift rxd (S.send_move (with_half k.half s))
+  pub step_shift : serial_mode s.scon ≡ 0 → S.serial_step k rxd s ≡ S.receive_shift rxd (S.send_move (with_half k.half s))
   unfolding S.serial_step S.send S.receive
-  step-shift z =
+  step_shift z =
       let m = serial_mode s.scon in
       let t = with_half k.half s in
       simp (eq-eqb m 0 z, eq-eqb (serial_mode (S.send_move t).scon) 0 ((move_kept m t (half_kept k.half s h o)).mode ∙ z))
 
-  pub step-ticks : (serial_mode s.scon ≡ 0 → ⊥)
+  pub step_ticks : (serial_mode s.scon ≡ 0 → ⊥)
       → S.serial_step k rxd s ≡ S.receive_ticks k.receive rxd (S.send_ticks k.send (with_half k.half s))
   unfolding S.serial_step S.send S.receive
-  step-ticks z =
+  step_ticks z =
       let m = serial_mode s.scon in
       let t = with_half k.half s in
       let u = S.send_ticks k.send t in

@@ -24,9 +24,9 @@ module _ (ws : List ℕ) (n : ℕ) where
         room = eqb-true n (length ws) (and_right (leb 1 (length ws) && leb (length ws) TUNNELS) (eqb n (length ws)) e);
       }
 
-  pub sized-met : Sized ws n → tunnels_ok ws n ≡ true
+  pub sized_met : Sized ws n → tunnels_ok ws n ≡ true
   unfolding tunnels_ok
-  sized-met s = simp (le-leb 1 (length ws) s.some, le-leb (length ws) TUNNELS s.few, eq-eqb n (length ws) s.room)
+  sized_met s = simp (le-leb 1 (length ws) s.some, le-leb (length ws) TUNNELS s.few, eq-eqb n (length ws) s.room)
 
 -- the slice and each wish within the limit
 wish_at : (ws : List ℕ) → wishes_ok ws ≡ true → (i : ℕ) → i < length ws → get_or ws i 0 ≤ 2 ^ 40
@@ -51,9 +51,9 @@ module _ (b : ℕ) (ws : List ℕ) where
         wish = wish_at ws (and_right (leb b longest) (wishes_ok ws) e);
       }
 
-  pub limited-met : Limited b ws → slice_ok b ws ≡ true
+  pub limited_met : Limited b ws → slice_ok b ws ≡ true
   unfolding slice_ok
-  limited-met l = and_both (leb b longest) (wishes_ok ws) (le-leb b longest l.slice) (wishes_met ws l.wish)
+  limited_met l = and_both (leb b longest) (wishes_ok ws) (le-leb b longest l.slice) (wishes_met ws l.wish)
 
 -- the three answers
 abbrev pub answers : ℕ → List ℕ → Shared
@@ -64,13 +64,13 @@ pub both : {code : ℕ} {output : List ℕ} {a : Shared} → answers code output
 both e = (ap (λ (s : Shared). s.code) e, ap (λ (s : Shared). s.output) e)
 
 module _ (b : ℕ) (ws out : List ℕ) where
-  pub bad-tunnels : tunnels_ok ws (length out) ≡ false → answers 18 out ≡ shares_answer b ws out
+  pub bad_tunnels_lem : tunnels_ok ws (length out) ≡ false → answers 18 out ≡ shares_answer b ws out
   unfolding shares_fault shares_answer
-  bad-tunnels e = rw e
+  bad_tunnels_lem e = rw e
 
-  pub bad-wish : tunnels_ok ws (length out) ≡ true → slice_ok b ws ≡ false → answers 19 out ≡ shares_answer b ws out
+  pub bad_wish_lem : tunnels_ok ws (length out) ≡ true → slice_ok b ws ≡ false → answers 19 out ≡ shares_answer b ws out
   unfolding shares_fault shares_answer
-  bad-wish e f = rw (e, f)
+  bad_wish_lem e f = rw (e, f)
 
   pub shared : tunnels_ok ws (length out) ≡ true → slice_ok b ws ≡ true → answers 0 (shares_of b ws) ≡ shares_answer b ws out
   unfolding shares_fault shares_answer

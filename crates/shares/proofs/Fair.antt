@@ -12,7 +12,7 @@ use Rattle.machine.proofs.Choices.{by_test, clash}
 use Rattle.slices.specs.Shares.{Shared, tunnels_ok, slice_ok, total, equal_part, first_parts, over_of, lack, goes_round, shares_of, shares_answer}
 use Rattle.shares.specs.Fair.{Fair, Says, Shares}
 use Rattle.shares.specs.Fair.Says.{given, bad_tunnels, bad_wish}
-use Rattle.shares.proofs.Answers.{sized, sized-met, limited, limited-met, bad-tunnels, bad-wish, shared}
+use Rattle.shares.proofs.Answers.{sized, sized_met, limited, limited_met, bad_tunnels_lem, bad_wish_lem, shared}
 
 -- The sum
 
@@ -173,23 +173,23 @@ is_only_fair b ws out f =
 -- Calls
 
 module _ (b : ℕ) (ws before : List ℕ) where
-  is-so : Says b ws before (shares_answer b ws before)
-  is-so =
+  is_so : Says b ws before (shares_answer b ws before)
+  is_so =
       by_test (tunnels_ok ws (length before))
       (λ e.
       by_test (slice_ok b ws)
       (λ f. rw (sym (shared b ws before e f)) (given (sized ws (length before) e) (limited b ws f) (is_fair b ws)))
-      (λ f. rw (sym (bad-wish b ws before e f)) (bad_wish (sized ws (length before) e) (λ l. clash (limited-met b ws l) f))))
-      (λ e. rw (sym (bad-tunnels b ws before e)) (bad_tunnels (λ s. clash (sized-met ws (length before) s) e)))
+      (λ f. rw (sym (bad_wish_lem b ws before e f)) (bad_wish (sized ws (length before) e) (λ l. clash (limited_met b ws l) f))))
+      (λ e. rw (sym (bad_tunnels_lem b ws before e)) (bad_tunnels (λ s. clash (sized_met ws (length before) s) e)))
 
-  is-only : (a : Shared) → Says b ws before a → a ≡ shares_answer b ws before
-  is-only a (given {after = after} s l f) =
-      rw (is_only_fair b ws after f) (shared b ws before (sized-met ws (length before) s) (limited-met b ws l))
-  is-only a (bad_tunnels n) =
-      by_test (tunnels_ok ws (length before)) (λ e. absurd (n (sized ws (length before) e))) (λ e. bad-tunnels b ws before e)
-  is-only a (bad_wish s n) =
+  is_only : (a : Shared) → Says b ws before a → a ≡ shares_answer b ws before
+  is_only a (given {after = after} s l f) =
+      rw (is_only_fair b ws after f) (shared b ws before (sized_met ws (length before) s) (limited_met b ws l))
+  is_only a (bad_tunnels n) =
+      by_test (tunnels_ok ws (length before)) (λ e. absurd (n (sized ws (length before) e))) (λ e. bad_tunnels_lem b ws before e)
+  is_only a (bad_wish s n) =
       by_test (slice_ok b ws) (λ f. absurd (n (limited b ws f)))
-      (λ f. bad-wish b ws before (sized-met ws (length before) s) f)
+      (λ f. bad_wish_lem b ws before (sized_met ws (length before) s) f)
 
 pub fair_shares : Shares
-fair_shares = record { fair = is_fair; only_fair = is_only_fair; so = is-so; only = is-only }
+fair_shares = record { fair = is_fair; only_fair = is_only_fair; so = is_so; only = is_only }

@@ -16,35 +16,35 @@ pub less_both : (n x t : ℕ) → n - (x + t) ≡ n - min x n - t
 less_both n x t = omega arith
 
 module _ (ws : List ℕ) (i : ℕ) where
-  pub wishes-on : i < length ws → wishes_ok (drop i ws) ≡ (leb (get_or ws i 0) longest && wishes_ok (drop (i + 1) ws))
+  pub wishes_on : i < length ws → wishes_ok (drop i ws) ≡ (leb (get_or ws i 0) longest && wishes_ok (drop (i + 1) ws))
   unfolding wishes_ok
-  wishes-on h = rw (add-one, drop-cons ws i 0)
+  wishes_on h = rw (add-one, drop-cons ws i 0)
 
-  pub wishes-out : length ws ≤ i → wishes_ok (drop i ws) ≡ true
+  pub wishes_out : length ws ≤ i → wishes_ok (drop i ws) ≡ true
   unfolding wishes_ok
-  wishes-out h = rw (drop_of_length-le ws h)
+  wishes_out h = rw (drop_of_length-le ws h)
 
-  pub over-on : (part over : ℕ) → i < length ws
+  pub over_on : (part over : ℕ) → i < length ws
       → over - total (first_parts part (drop i ws))
       ≡ over - min (min (get_or ws i 0) part) over - total (first_parts part (drop (i + 1) ws))
   unfolding first_parts total
-  over-on part over h =
+  over_on part over h =
       rw (add-one, drop-cons ws i 0)
       (less_both over (min (get_or ws i 0) part) (total (first_parts part (drop (suc i) ws))))
 
-  pub over-out : (part over : ℕ) → length ws ≤ i → over - total (first_parts part (drop i ws)) ≡ over
+  pub over_out : (part over : ℕ) → length ws ≤ i → over - total (first_parts part (drop i ws)) ≡ over
   unfolding first_parts total
-  over-out part over h = rw (drop_of_length-le ws h) (omega arith)
+  over_out part over h = rw (drop_of_length-le ws h) (omega arith)
 
   -- the share of tunnel i is written, and what is over goes on
-  pub round-on : (part left : ℕ) (out : List ℕ) → i < length ws → i < length out
+  pub round_on : (part left : ℕ) (out : List ℕ) → i < length ws → i < length out
       → take (i + 1) (set out i (min (get_or ws i 0) part + min (lack part (get_or ws i 0)) left))
       ++ goes_round part (left - min (lack part (get_or ws i 0)) left) (drop (i + 1) ws)
       ≡ take i out ++ goes_round part left (drop i ws)
   unfolding goes_round
-  round-on part left out h l = rw (add-one, take-suc-set, append_assoc, drop-cons ws i 0)
+  round_on part left out h l = rw (add-one, take-suc-set, append_assoc, drop-cons ws i 0)
 
-  pub round-out : (part left : ℕ) (out : List ℕ) → length ws ≤ i → length out ≡ length ws
+  pub round_out : (part left : ℕ) (out : List ℕ) → length ws ≤ i → length out ≡ length ws
       → take i out ++ goes_round part left (drop i ws) ≡ out
   unfolding goes_round
-  round-out part left out h e = rw (drop_of_length-le ws h) (append-nil (take i out) ∙ take_all i out (omega arith))
+  round_out part left out h e = rw (drop_of_length-le ws h) (append-nil (take i out) ∙ take_all i out (omega arith))

@@ -20,29 +20,29 @@ cross a b c d e f h p q =
     le_of_mul-le-mul_right l h
 
 module _ (f g : Fraction) where
-  at-most : f.numerator * g.denominator ≤ g.numerator * f.denominator → at_most f g ≡ true
+  at_most_lem : f.numerator * g.denominator ≤ g.numerator * f.denominator → at_most f g ≡ true
   unfolding at_most
-  at-most h = le-leb (f.numerator * g.denominator) (g.numerator * f.denominator) h
+  at_most_lem h = le-leb (f.numerator * g.denominator) (g.numerator * f.denominator) h
 
-  at-most-means : at_most f g ≡ true → f.numerator * g.denominator ≤ g.numerator * f.denominator
+  at_most_means : at_most f g ≡ true → f.numerator * g.denominator ≤ g.numerator * f.denominator
   unfolding at_most
-  at-most-means e = leb-true (f.numerator * g.denominator) (g.numerator * f.denominator) e
+  at_most_means e = leb-true (f.numerator * g.denominator) (g.numerator * f.denominator) e
 
   above : at_most f g ≡ false → g.numerator * f.denominator < f.numerator * g.denominator
   unfolding at_most
   above e = leb-false (f.numerator * g.denominator) (g.numerator * f.denominator) e
 
 pub at_most_self : (f : Fraction) → at_most f f ≡ true
-at_most_self f = at-most f f (le_refl _)
+at_most_self f = at_most_lem f f (le_refl _)
 
 pub at_most_total : (f g : Fraction) → at_most f g ≡ false → at_most g f ≡ true
-at_most_total f g e = at-most g f (le_of_lt (above f g e))
+at_most_total f g e = at_most_lem g f (le_of_lt (above f g e))
 
 pub at_most_trans : (f g h : Fraction) → 0 < g.denominator → at_most f g ≡ true → at_most g h ≡ true → at_most f h ≡ true
 at_most_trans f g h positive p q =
-    at-most f h
+    at_most_lem f h
     (cross f.numerator f.denominator g.numerator g.denominator h.numerator h.denominator positive
-    (at-most-means f g p) (at-most-means g h q))
+    (at_most_means f g p) (at_most_means g h q))
 
 -- two fractions no larger than `Sized` says
 pub product_fits : (f g : Fraction) → Sized f → Sized g → f.numerator * g.denominator ≤ 9663676416000000
@@ -67,14 +67,14 @@ denominator_most crystal p = omega arith
 
 -- and how far it lies from the wanted one
 module _ (crystal rate : ℕ) (p : Pair) where
-  pub wanted-fits : rate ≤ 1000000 → rate * (rate_of crystal p).denominator ≤ 98304000000
-  wanted-fits h = mul-le-mul h (denominator_most crystal p)
+  pub wanted_fits : rate ≤ 1000000 → rate * (rate_of crystal p).denominator ≤ 98304000000
+  wanted_fits h = mul-le-mul h (denominator_most crystal p)
 
-  pub away-sized : crystal ≤ 40000000 → rate ≤ 1000000 → p.smod ≤ 1 → Sized (away crystal rate p)
+  pub away_sized : crystal ≤ 40000000 → rate ≤ 1000000 → p.smod ≤ 1 → Sized (away crystal rate p)
   unfolding away
-  away-sized h r s =
-      record { numerator = omega (arith, wanted-fits r, numerator_most crystal p h s); denominator = denominator_most crystal p }
+  away_sized h r s =
+      record { numerator = omega (arith, wanted_fits r, numerator_most crystal p h s); denominator = denominator_most crystal p }
 
-  pub away-positive : p.th1 ≤ 255 → 0 < (away crystal rate p).denominator
+  pub away_positive : p.th1 ≤ 255 → 0 < (away crystal rate p).denominator
   unfolding away
-  away-positive = denominator_positive crystal p
+  away_positive = denominator_positive crystal p

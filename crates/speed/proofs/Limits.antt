@@ -25,9 +25,9 @@ module _ (crystal rate tolerance : ℕ) where
         tolerance_most = leb-true tolerance 10000 (and_right ofRate (leb tolerance 10000) rest);
       }
 
-  pub limits-met : Allowed crystal rate tolerance → allowed crystal rate tolerance ≡ true
+  pub limits_met : Allowed crystal rate tolerance → allowed crystal rate tolerance ≡ true
   unfolding allowed
-  limits-met a =
+  limits_met a =
       and_both (leb 1 crystal && leb crystal 40000000) ((leb 1 rate && leb rate 1000000) && leb tolerance 10000)
       (and_both (leb 1 crystal) (leb crystal 40000000) (le-leb 1 crystal a.crystal_least) (le-leb crystal 40000000 a.crystal_most))
       (and_both (leb 1 rate && leb rate 1000000) (leb tolerance 10000)

@@ -10,7 +10,7 @@ use Rattle.baud.specs.declared.Pair.{Pair}
 use Rattle.baud.specs.declared.SpeedAnswer.TheVariants.{Refused, Nothing}
 use Rattle.baud.specs.Speed.{PAIRS, allowed, away, within, as_near, pair_at, every, fits, found, first_from, search, speed}
 use Rattle.speed.specs.Nearest.{FirstNearest}
-use Rattle.speed.proofs.Fractions.{at_most_trans, away-positive}
+use Rattle.speed.proofs.Fractions.{at_most_trans, away_positive}
 use Rattle.speed.proofs.Nearest.{below_suc, th1_most}
 
 -- a test at every place below n
@@ -28,65 +28,65 @@ every_at test (suc n) e =
 
 module _ (crystal rate tolerance : ℕ) where
   -- what is at least as near as a pair within the tolerance is within it
-  pub nearer-within : (p q : Pair) → q.th1 ≤ 255 → as_near crystal rate p q ≡ true → within crystal rate tolerance q ≡ true
+  pub nearer_within : (p q : Pair) → q.th1 ≤ 255 → as_near crystal rate p q ≡ true → within crystal rate tolerance q ≡ true
       → within crystal rate tolerance p ≡ true
   unfolding as_near within
-  nearer-within p q h =
+  nearer_within p q h =
       at_most_trans (away crystal rate p) (away crystal rate q) (record { numerator = rate * tolerance; denominator = 10000 })
-      (away-positive crystal rate q h)
+      (away_positive crystal rate q h)
 
   -- what fits is within the tolerance, and as near as every pair
-  abbrev asNearAs : Pair → ℕ → Bool
-  asNearAs p n = as_near crystal rate p (pair_at n)
+  abbrev as_near_as : Pair → ℕ → Bool
+  as_near_as p n = as_near crystal rate p (pair_at n)
 
-  fits-within : (p : Pair) → fits crystal rate tolerance p ≡ true → within crystal rate tolerance p ≡ true
+  fits_within : (p : Pair) → fits crystal rate tolerance p ≡ true → within crystal rate tolerance p ≡ true
   unfolding fits
-  fits-within p e = and_left (within crystal rate tolerance p) (every (asNearAs p) PAIRS) e
+  fits_within p e = and_left (within crystal rate tolerance p) (every (as_near_as p) PAIRS) e
 
-  fits-near : (p : Pair) → fits crystal rate tolerance p ≡ true → (k : ℕ) → k < PAIRS → as_near crystal rate p (pair_at k) ≡ true
+  fits_near : (p : Pair) → fits crystal rate tolerance p ≡ true → (k : ℕ) → k < PAIRS → as_near crystal rate p (pair_at k) ≡ true
   unfolding fits
-  fits-near p e = every_at (asNearAs p) PAIRS (and_right (within crystal rate tolerance p) (every (asNearAs p) PAIRS) e)
+  fits_near p e = every_at (as_near_as p) PAIRS (and_right (within crystal rate tolerance p) (every (as_near_as p) PAIRS) e)
 
   -- the first that fits
-  first-at : (n k b : ℕ) → ((j : ℕ) → j < b → fits crystal rate tolerance (pair_at j) ≡ false)
+  first_at : (n k b : ℕ) → ((j : ℕ) → j < b → fits crystal rate tolerance (pair_at j) ≡ false)
       → fits crystal rate tolerance (pair_at b) ≡ true → k ≤ b → b < k + n
       → first_from crystal rate tolerance n k ≡ found crystal (pair_at b)
   unfolding first_from
-  first-at zero k b f e l m = absurd (omega arith)
-  first-at (suc n) k b f e l m =
-      ⊎_elim (λ q. rw q (simp e)) (λ h. simp (f k h) (first-at n (suc k) b f e (omega arith) (omega arith))) (eq-or-lt_of_le l)
+  first_at zero k b f e l m = absurd (omega arith)
+  first_at (suc n) k b f e l m =
+      ⊎_elim (λ q. rw q (simp e)) (λ h. simp (f k h) (first_at n (suc k) b f e (omega arith) (omega arith))) (eq-or-lt_of_le l)
 
-  first-none : (n k : ℕ) → ((j : ℕ) → j < k + n → fits crystal rate tolerance (pair_at j) ≡ false)
+  first_none : (n k : ℕ) → ((j : ℕ) → j < k + n → fits crystal rate tolerance (pair_at j) ≡ false)
       → first_from crystal rate tolerance n k ≡ Nothing
   unfolding first_from
-  first-none zero k f = refl
-  first-none (suc n) k f = simp (f k (omega arith)) (first-none n (suc k) (λ j l. f j (omega arith)))
+  first_none zero k f = refl
+  first_none (suc n) k f = simp (f k (omega arith)) (first_none n (suc k) (λ j l. f j (omega arith)))
 
   module _ (b : ℕ) (h : FirstNearest crystal rate PAIRS b) where
     before : (k : ℕ) → k < b → fits crystal rate tolerance (pair_at k) ≡ false
     before k l =
         by_test (fits crystal rate tolerance (pair_at k))
-        (λ e. absurd (clash (fits-near (pair_at k) e b h.place) (h.first k l))) (λ e. e)
+        (λ e. absurd (clash (fits_near (pair_at k) e b h.place) (h.first k l))) (λ e. e)
 
     here : within crystal rate tolerance (pair_at b) ≡ true → fits crystal rate tolerance (pair_at b) ≡ true
     unfolding fits
     here e =
-        and_both (within crystal rate tolerance (pair_at b)) (every (asNearAs (pair_at b)) PAIRS) e
-        (every_true (asNearAs (pair_at b)) PAIRS h.nearest)
+        and_both (within crystal rate tolerance (pair_at b)) (every (as_near_as (pair_at b)) PAIRS) e
+        (every_true (as_near_as (pair_at b)) PAIRS h.nearest)
 
     nowhere : within crystal rate tolerance (pair_at b) ≡ false → (k : ℕ) → k < PAIRS → fits crystal rate tolerance (pair_at k) ≡ false
     nowhere e k l =
         by_test (fits crystal rate tolerance (pair_at k))
-        (λ f. absurd (clash (nearer-within (pair_at b) (pair_at k) (th1_most k) (h.nearest k l) (fits-within (pair_at k) f)) e)) (λ f. f)
+        (λ f. absurd (clash (nearer_within (pair_at b) (pair_at k) (th1_most k) (h.nearest k l) (fits_within (pair_at k) f)) e)) (λ f. f)
 
     -- what the search finds
     pub answered : within crystal rate tolerance (pair_at b) ≡ true → search crystal rate tolerance ≡ found crystal (pair_at b)
     unfolding search
-    answered e = first-at PAIRS 0 b before (here e) (omega arith) h.place
+    answered e = first_at PAIRS 0 b before (here e) (omega arith) h.place
 
     pub silent : within crystal rate tolerance (pair_at b) ≡ false → search crystal rate tolerance ≡ Nothing
     unfolding search
-    silent e = first-none PAIRS 0 (nowhere e)
+    silent e = first_none PAIRS 0 (nowhere e)
 
   -- the answer, within the limits and outside
   pub searched : allowed crystal rate tolerance ≡ true → speed crystal rate tolerance ≡ search crystal rate tolerance

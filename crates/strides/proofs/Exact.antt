@@ -23,18 +23,18 @@ use Rattle.machine.specs.Calls.{longest}
 use Rattle.laws.specs.Ranges.{Ranges}
 use Rattle.machine.proofs.Choices.{by_test, or_left, or_right, or_neither, not_differs}
 use Rattle.laws.proofs.Bits.{flagged_none}
-use Rattle.cycle.proofs.Steps.{cycle-up}
+use Rattle.cycle.proofs.Steps.{cycle_up}
 use Rattle.cycle.proofs.Heard.{tf2_none}
 use Rattle.machine.specs.Same.{same}
 use Rattle.machine.specs.Rounds.{overflowed, overflows, working, watched, busy}
 use Rattle.strides.specs.Stride.{start_next, awake_room, stride_timers, stride2, stride_serial, awake_stride, room, stride}
 use Rattle.strides.proofs.Bools.{same_equal, same_self}
-use Rattle.strides.proofs.Settles.{seen_in, rest_settled, no_fall, externals-level0, externals-level1}
+use Rattle.strides.proofs.Settles.{seen_in, rest_settled, no_fall, externals_level0, externals_level1}
 use Rattle.strides.proofs.Timers.{no_flags}
-use Rattle.strides.proofs.Serial.{start-found}
+use Rattle.strides.proofs.Serial.{start_found_lem}
 use Rattle.strides.proofs.Runs.{cycles_none, cycles_ranges}
 use Rattle.strides.proofs.Overflows.{timers_room_left, timer2_room_left}
-use Rattle.strides.proofs.Strides.{overflows-quiet, down-room, up_room, up_rest, up-stride, room-timers, room-timer2, quiet-cycle, room-left, room_back, stride_law}
+use Rattle.strides.proofs.Strides.{overflows_quiet, down_room, up_room, up_rest, up_stride, room_timers_lem, room_timer2, quiet_cycle, room_left, room_back, stride_law}
 
 -- Room: the next cycle is not busy
 
@@ -50,34 +50,34 @@ module _ (pins : ℕ) (d : Device) (r : Ranges d) (h : 1 ≤ room pins d) where
     no_overflow =
         let l = pins_of d.kind pins in
         let k = rw (up_room pins d up) at h in
-        ap overflowed (overflows-quiet l d r (up_rest pins d up h) (room-timers 1 l d k) (room-timer2 1 l d k))
+        ap overflowed (overflows_quiet l d r (up_rest pins d up h) (room_timers_lem 1 l d k) (room_timer2 1 l d k))
 
     resting : working d ≡ false
     unfolding working
     resting = let s = up_rest pins d up h in simp (s.sends, s.receives)
 
-    quiet-up : cycle_of pins d ≡ awake_stride 1 (pins_of d.kind pins) d
-    quiet-up = quiet-cycle pins d r h ∙ up-stride pins d up 1
+    quiet_up : cycle_of pins d ≡ awake_stride 1 (pins_of d.kind pins) d
+    quiet_up = quiet_cycle pins d r h ∙ up_stride pins d up 1
 
     -- a stride leaves the positions and what is watched
-    watched-stays : watched (cycle_of pins d) ≡ watched d
+    watched_stays : watched (cycle_of pins d) ≡ watched d
     unfolding watched flags awake_stride stride_timers stride2 stride_serial
-    watched-stays = ap watched quiet-up
+    watched_stays = ap watched quiet_up
 
-    resting-after : working (cycle_of pins d) ≡ false
+    resting_after : working (cycle_of pins d) ≡ false
     unfolding working awake_stride stride_serial
-    resting-after = ap working quiet-up ∙ resting
+    resting_after = ap working quiet_up ∙ resting
 
-    up-idle : busy pins d ≡ false
+    up_idle : busy pins d ≡ false
     unfolding busy
-    up-idle =
+    up_idle =
         rw up
         (or_neither (overflows pins d || working d) _ (or_neither (overflows pins d) (working d) no_overflow resting)
-        (or_neither (working (cycle_of pins d)) _ resting-after
-        (ap (λ (xs : List ℕ). not (same (watched d) xs)) watched-stays ∙ ap not (same_self (watched d)))))
+        (or_neither (working (cycle_of pins d)) _ resting_after
+        (ap (λ (xs : List ℕ). not (same (watched d) xs)) watched_stays ∙ ap not (same_self (watched d)))))
 
   pub room_idle : busy pins d ≡ false
-  room_idle = by_test (powered_down d.pcon) (down_idle pins d) up-idle
+  room_idle = by_test (powered_down d.pcon) (down_idle pins d) up_idle
 
 -- A cycle that is not busy: there is room. In power-down there is; here the device is out of it
 
@@ -169,7 +169,7 @@ idle_still pins d up idle =
     let e = steps d (pins_of d.kind pins) in
     let now = overflows pins d || working d in
     let alike = same (watched d) (watched e) in
-    let parts = rw (up, cycle-up pins d up) at idle in
+    let parts = rw (up, cycle_up pins d up) at idle in
     let first = or_left now (working e || not alike) parts in
     let last = or_right now (working e || not alike) parts in
     record {
@@ -206,14 +206,14 @@ module _ (pins : ℕ) (d : Device) (r : Ranges d) (still : Still pins d) where
   due2 = still.alike.due2 ∙ fallen T2 (no_fall l T2 refl)
 
   -- step 2 sets no flag
-  same-tcon : (counted d l).timers.timers.tcon ≡ d.timers.tcon
+  same_tcon : (counted d l).timers.timers.tcon ≡ d.timers.tcon
   unfolding counted timers_step l
-  same-tcon =
+  same_tcon =
       (λ i. timer_flags d.timers (still.overflow.timer0 i) (still.overflow.th0 i) (still.overflow.timer1 i)) ∙ no_flags d.timers
 
-  tcon-after : (steps d l).timers.tcon ≡ externals (levels_of l) l d.timers.tcon
+  tcon_after : (steps d l).timers.tcon ≡ externals (levels_of l) l d.timers.tcon
   unfolding steps timers_after l
-  tcon-after = λ i. externals (levels i) l (same-tcon i)
+  tcon_after = λ i. externals (levels i) l (same_tcon i)
 
   -- the flags stay, and so does what seen takes of them
   same_seen : seen_in d ≡ seen_in (steps d l)
@@ -242,7 +242,7 @@ module _ (pins : ℕ) (d : Device) (r : Ranges d) (still : Still pins d) where
   unfolding steps ticks_in l
   found w =
       (λ i. (serial_step (serial_ticks d.pcon d.timer2.t2con d.serial (still.overflow.timer1 i) (still.overflow.timer2 i)) (bit RXD l) d.serial).receive.position)
-      ∙ start-found d.pcon d.timer2.t2con d.serial r.serial (bit RXD l) still.before.sends still.before.receives w
+      ∙ start_found_lem d.pcon d.timer2.t2con d.serial r.serial (bit RXD l) still.before.sends still.before.receives w
 
   starts : start_next (bit RXD l) d.serial ≡ false
   unfolding l
@@ -252,9 +252,9 @@ module _ (pins : ℕ) (d : Device) (r : Ranges d) (still : Still pins d) where
       go true e = absurd (omega (arith, found e, still.after.receives))
       go false e = refl
 
-  still-room : 1 ≤ room pins d
+  still_room : 1 ≤ room pins d
   unfolding awake_room l counted
-  still-room =
+  still_room =
       let o = still.overflow in
       rw (
         up_room pins d still.up,
@@ -264,8 +264,8 @@ module _ (pins : ℕ) (d : Device) (r : Ranges d) (still : Still pins d) where
           due0 = due0;
           due1 = due1;
           due2 = due2;
-          level0 = externals-level0 l d.timers.tcon (still.alike.ie0 ∙ ap (bit IE0) tcon-after);
-          level1 = externals-level1 l d.timers.tcon (still.alike.ie1 ∙ ap (bit IE1) tcon-after);
+          level0 = externals_level0 l d.timers.tcon (still.alike.ie0 ∙ ap (bit IE0) tcon_after);
+          level1 = externals_level1 l d.timers.tcon (still.alike.ie1 ∙ ap (bit IE1) tcon_after);
           sends = still.before.sends;
           receives = still.before.receives;
           starts = starts;
@@ -284,8 +284,8 @@ no_room pins d r h = go (busy pins d) refl
     go : (x : Bool) → busy pins d ≡ x → x ≡ true
     go true e = refl
     go false e =
-        by_test (powered_down d.pcon) (λ down. absurd (omega (arith, down-room pins d down)))
-        (λ up. absurd (omega (arith, still-room pins d r (idle_still pins d up e))))
+        by_test (powered_down d.pcon) (λ down. absurd (omega (arith, down_room pins d down)))
+        (λ up. absurd (omega (arith, still_room pins d r (idle_still pins d up e))))
 
 module _ (pins : ℕ) (d : Device) (r : Ranges d) where
   -- the room after m cycles of the run
@@ -296,11 +296,11 @@ module _ (pins : ℕ) (d : Device) (r : Ranges d) where
   pub quiet : (j : ℕ) → j < room pins d → busy pins (cycles j pins d) ≡ false
   quiet j h =
       room_idle pins (cycles j pins d) (cycles_ranges j pins d r)
-      (omega (arith, after_run j (omega arith), room-left pins d 1 j (omega arith)))
+      (omega (arith, after_run j (omega arith), room_left pins d 1 j (omega arith)))
 
   -- and after a run that is shorter than the longest jump the next cycle is
-  pub busy-next : room pins d < longest → busy pins (cycles (room pins d) pins d) ≡ true
-  busy-next h = no_room pins (cycles (room pins d) pins d) (cycles_ranges (room pins d) pins d r) (ended (room pins d) refl)
+  pub busy_next : room pins d < longest → busy pins (cycles (room pins d) pins d) ≡ true
+  busy_next h = no_room pins (cycles (room pins d) pins d) (cycles_ranges (room pins d) pins d r) (ended (room pins d) refl)
     where
       ended : (m : ℕ) → m ≡ room pins d → room pins (cycles m pins d) ≡ 0
       ended zero e = ap (room pins) (cycles_none 0 pins d (omega arith)) ∙ sym e

@@ -100,15 +100,15 @@ module _ (counts : Bool) (mode tl th : ℕ) where
   unfolding moved moved_in
   moved_more m = more counts (eqb mode 0) (eqb mode 1) m tl th
 
-  pub moved-still : (m : ℕ) → (moved m counts mode tl th).overflow ≡ 0
+  pub moved_still : (m : ℕ) → (moved m counts mode tl th).overflow ≡ 0
   unfolding moved moved_in
-  moved-still m = still counts (eqb mode 0) (eqb mode 1) m tl th
+  moved_still m = still counts (eqb mode 0) (eqb mode 1) m tl th
 
-  pub moved-room : (m : ℕ)
+  pub moved_room : (m : ℕ)
       → room_of counts (left_in mode (moved m counts mode tl th).tl (moved m counts mode tl th).th)
       ≡ room_of counts (left_in mode tl th - m)
   unfolding moved moved_in left_in
-  moved-room m = room_after counts (eqb mode 0) (eqb mode 1) m tl th
+  moved_room m = room_after counts (eqb mode 0) (eqb mode 1) m tl th
 
 -- in mode 3 TL is alone, and TH keeps apart
 pub moved_low : (m : ℕ) (counts : Bool) (mode tl th : ℕ) → mode ≡ 3 → (moved m counts mode tl th).tl ≡ cond counts (tl + m) tl

@@ -8,7 +8,7 @@ use Rattle.machine.specs.Power.{powered_down}
 use Rattle.machine.specs.Cycle.{steps, cycle_of, cycles}
 use Rattle.machine.proofs.Choices.{chosen}
 use Rattle.laws.specs.Ranges.{Ranges}
-use Rattle.cycle.proofs.Keeps.{cycle-ranges}
+use Rattle.cycle.proofs.Keeps.{cycle_ranges}
 
 pub cycles_add : (m n pins : ℕ) (d : Device) → cycles (m + n) pins d ≡ cycles n pins (cycles m pins d)
 unfolding cycles
@@ -53,4 +53,4 @@ number_more m c =
 pub cycles_ranges : (n pins : ℕ) (d : Device) → Ranges d → Ranges (cycles n pins d)
 unfolding cycles
 cycles_ranges zero pins d r = r
-cycles_ranges (suc n) pins d r = cycles_ranges n pins (cycle_of pins d) (cycle-ranges d r pins)
+cycles_ranges (suc n) pins d r = cycles_ranges n pins (cycle_of pins d) (cycle_ranges d r pins)

@@ -28,16 +28,16 @@ strides_to s p q = λ i. Quiet.sampled (q i) (send_counter (p i) s)
 
 module _ (smod rxd : ℕ) (s : Serial) where
   -- outside mode 2 it leaves the serial port as it is
-  pub stride-still : (m : ℕ) → SerialOk s → eqb (serial_mode s.scon) 2 ≡ false → stride_serial m smod rxd s ≡ s
+  pub stride_still : (m : ℕ) → SerialOk s → eqb (serial_mode s.scon) 2 ≡ false → stride_serial m smod rxd s ≡ s
   unfolding stride_serial ticks2 sampled
-  stride-still m o e =
+  stride_still m o e =
       let same : (s.send.counter + 0) % 16 ≡ s.send.counter = omega (arith, o.send.counter) in
       simp e (strides_to s same refl)
 
   -- no cycle
-  pub serial-none : SerialOk s → stride_serial 0 smod rxd s ≡ s
+  pub serial_none : SerialOk s → stride_serial 0 smod rxd s ≡ s
   unfolding stride_serial ticks2 sampled
-  serial-none o =
+  serial_none o =
       let same : (s.send.counter + 0) % 16 ≡ s.send.counter = omega (arith, o.send.counter) in
       strides_to s (simp (zero-mul, cond_same) same) (taken (eqb (serial_mode s.scon) 2))
     where
@@ -46,9 +46,9 @@ module _ (smod rxd : ℕ) (s : Serial) where
       taken false = refl
 
   -- m cycles after one
-  pub serial-more : (m : ℕ) → stride_serial m smod rxd (stride_serial 1 smod rxd s) ≡ stride_serial (suc m) smod rxd s
+  pub serial_more : (m : ℕ) → stride_serial m smod rxd (stride_serial 1 smod rxd s) ≡ stride_serial (suc m) smod rxd s
   unfolding stride_serial ticks2 sampled
-  serial-more m = strides_to s (counts (eqb (serial_mode s.scon) 2)) (taken (eqb (serial_mode s.scon) 2) (eqb m 0))
+  serial_more m = strides_to s (counts (eqb (serial_mode s.scon) 2)) (taken (eqb (serial_mode s.scon) 2) (eqb m 0))
     where
       counts : (two : Bool) → ((s.send.counter + cond two (1 * mode2_ticks smod) 0) % 16 + cond two (m * mode2_ticks smod) 0) % 16
           ≡ (s.send.counter + cond two (suc m * mode2_ticks smod) 0) % 16
@@ -61,9 +61,9 @@ module _ (smod rxd : ℕ) (s : Serial) where
       taken false none = refl
 
   -- both positions go on resting, and no start bit comes to wait
-  pub serial-settled : (m : ℕ) → serial_settled rxd s ≡ true → serial_settled rxd (stride_serial m smod rxd s) ≡ true
+  pub serial_settled_lem : (m : ℕ) → serial_settled rxd s ≡ true → serial_settled rxd (stride_serial m smod rxd s) ≡ true
   unfolding serial_settled start_found stride_serial sampled
-  serial-settled m e =
+  serial_settled_lem m e =
       let rests = eqb s.send.position 0 && eqb s.receive.position 0 in
       let two = eqb (serial_mode s.scon) 2 in
       let ren = eqb (bit REN s.scon) 1 in
@@ -95,30 +95,30 @@ module _ (pcon t2con : ℕ) (s : Serial) (o : SerialOk s) where
   ticks : Ticks
   ticks = serial_ticks pcon t2con s 0 0
 
-  half-stays : ticks.half ≡ s.half
+  half_stays : ticks.half ≡ s.half
   unfolding ticks serial_ticks half_after
-  half-stays =
+  half_stays =
       let same : (s.half + 0) % 2 ≡ s.half = omega (arith, o.half) in
       simp (same, cond_same)
 
   -- the ticks of a direction: those of mode 2, otherwise none
-  ticks-two : (clock : ℕ) → serial_mode s.scon ≡ 2
+  ticks_two : (clock : ℕ) → serial_mode s.scon ≡ 2
       → ticks_of (serial_mode s.scon) (bit SMOD pcon) (bit clock t2con) (ticks1 (bit SMOD pcon) s.half 0) 0 ≡ mode2_ticks (bit SMOD pcon)
   unfolding ticks_of
-  ticks-two clock e = ap (λ (mode : ℕ). ticks_of mode (bit SMOD pcon) (bit clock t2con) (ticks1 (bit SMOD pcon) s.half 0) 0) e
+  ticks_two clock e = ap (λ (mode : ℕ). ticks_of mode (bit SMOD pcon) (bit clock t2con) (ticks1 (bit SMOD pcon) s.half 0) 0) e
 
-  ticks-none : (clock : ℕ) → eqb (serial_mode s.scon) 2 ≡ false
+  ticks_none : (clock : ℕ) → eqb (serial_mode s.scon) 2 ≡ false
       → ticks_of (serial_mode s.scon) (bit SMOD pcon) (bit clock t2con) (ticks1 (bit SMOD pcon) s.half 0) 0 ≡ 0
   unfolding ticks_of ticks1
-  ticks-none clock e = simp (e, cond_same)
+  ticks_none clock e = simp (e, cond_same)
 
   module _ (rxd : ℕ) (p : s.send.position ≡ 0) (q : s.receive.position ≡ 0) where
     -- mode 2 with no start bit
-    quiet-two : serial_mode s.scon ≡ 2 → start_found rxd s ≡ false → serial_step ticks rxd s ≡ stride_serial 1 (bit SMOD pcon) rxd s
+    quiet_two : serial_mode s.scon ≡ 2 → start_found rxd s ≡ false → serial_step ticks rxd s ≡ stride_serial 1 (bit SMOD pcon) rxd s
     unfolding ticks serial_ticks stride_serial ticks2 sampled
-    quiet-two e w =
+    quiet_two e w =
         rest_ticks ticks rxd s (λ z. omega arith) p q o.send.counter w
-        ∙ ((λ i. Quiet.sampled (sampling i) (send_counter (counting i) (with_half (half-stays i) s)))
+        ∙ ((λ i. Quiet.sampled (sampling i) (send_counter (counting i) (with_half (half_stays i) s)))
         ∙ sym (simp (eq-eqb (serial_mode s.scon) 2 e, one-mul)))
       where
         some : (b : Bool) → cond (eqb (cond b 6 3) 0) s.receive.sample rxd ≡ rxd
@@ -126,31 +126,31 @@ module _ (pcon t2con : ℕ) (s : Serial) (o : SerialOk s) where
         some false = refl
 
         sampling : cond (eqb ticks.receive 0) s.receive.sample rxd ≡ rxd
-        sampling = ap (λ (n : ℕ). cond (eqb n 0) s.receive.sample rxd) (ticks-two RCLK e) ∙ some (eqb (bit SMOD pcon) 1)
+        sampling = ap (λ (n : ℕ). cond (eqb n 0) s.receive.sample rxd) (ticks_two RCLK e) ∙ some (eqb (bit SMOD pcon) 1)
 
         counting : (s.send.counter + ticks.send) % 16 ≡ (s.send.counter + mode2_ticks (bit SMOD pcon)) % 16
-        counting = ap (λ (n : ℕ). (s.send.counter + n) % 16) (ticks-two TCLK e)
+        counting = ap (λ (n : ℕ). (s.send.counter + n) % 16) (ticks_two TCLK e)
 
     -- the other modes
-    quiet-others : eqb (serial_mode s.scon) 2 ≡ false → serial_step ticks rxd s ≡ stride_serial 1 (bit SMOD pcon) rxd s
+    quiet_others : eqb (serial_mode s.scon) 2 ≡ false → serial_step ticks rxd s ≡ stride_serial 1 (bit SMOD pcon) rxd s
     unfolding ticks serial_ticks
-    quiet-others e =
+    quiet_others e =
         by_test (eqb (serial_mode s.scon) 0) (λ z. rest_shift ticks rxd s (eqb-true (serial_mode s.scon) 0 z) p q)
-        (λ z. rest_no_ticks ticks rxd s (eqb-false (serial_mode s.scon) 0 z) (ticks-none TCLK e) (ticks-none RCLK e))
-        ∙ (ap (λ (h : ℕ). with_half h s) half-stays ∙ sym (stride-still (bit SMOD pcon) rxd s 1 o e))
+        (λ z. rest_no_ticks ticks rxd s (eqb-false (serial_mode s.scon) 0 z) (ticks_none TCLK e) (ticks_none RCLK e))
+        ∙ (ap (λ (h : ℕ). with_half h s) half_stays ∙ sym (stride_still (bit SMOD pcon) rxd s 1 o e))
 
-    pub quiet-serial : start_next rxd s ≡ false → serial_step (serial_ticks pcon t2con s 0 0) rxd s ≡ stride_serial 1 (bit SMOD pcon) rxd s
+    pub quiet_serial : start_next rxd s ≡ false → serial_step (serial_ticks pcon t2con s 0 0) rxd s ≡ stride_serial 1 (bit SMOD pcon) rxd s
     unfolding ticks
-    quiet-serial w =
-        by_test (eqb (serial_mode s.scon) 2) (λ e. quiet-two (eqb-true (serial_mode s.scon) 2 e) (simp e at w)) quiet-others
+    quiet_serial w =
+        by_test (eqb (serial_mode s.scon) 2) (λ e. quiet_two (eqb-true (serial_mode s.scon) 2 e) (simp e at w)) quiet_others
 
     -- a start bit that waits is found
-    pub start-found : start_next rxd s ≡ true → (serial_step (serial_ticks pcon t2con s 0 0) rxd s).receive.position ≡ 1
+    pub start_found_lem : start_next rxd s ≡ true → (serial_step (serial_ticks pcon t2con s 0 0) rxd s).receive.position ≡ 1
     unfolding start_found serial_step send receive ticks serial_ticks
-    start-found w =
+    start_found_lem w =
         let two = eqb-true (serial_mode s.scon) 2 (and_left (eqb (serial_mode s.scon) 2) (start_found rxd s) w) in
         let t = with_half ticks.half s in
         let u = send_counter ((s.send.counter + ticks.send) % 16) t in
         simp (ne_eqb (serial_mode s.scon) 0 (λ z. omega arith), rest_send_ticks ticks.send t p o.send.counter)
-        (ap (λ (n : ℕ). (receive_ticks n rxd u).receive.position) (ticks-two RCLK two)
+        (ap (λ (n : ℕ). (receive_ticks n rxd u).receive.position) (ticks_two RCLK two)
         ∙ start_ticks (eqb (bit SMOD pcon) 1) rxd u q (and_right (eqb (serial_mode s.scon) 2) (start_found rxd s) w))

@@ -113,9 +113,9 @@ clear_same k x e = clear_put k x ∙ (ap (λ (b : ℕ). put_bit k b x) (sym e) �
 
 module _ (it ie level tcon : ℕ) where
   -- at its level it stays
-  external-rest : level < 2 → level_settled it ie level tcon ≡ true → external it ie 0 level tcon ≡ tcon
+  external_rest : level < 2 → level_settled it ie level tcon ≡ true → external it ie 0 level tcon ≡ tcon
   unfolding external
-  external-rest f = go (eqb (bit it tcon) 1) level f
+  external_rest f = go (eqb (bit it tcon) 1) level f
     where
       go : (edge : Bool) (level : ℕ) → level < 2 → (edge || not (eqb (bit ie tcon) level)) ≡ true
           → cond edge tcon (cond (eqb level 0) (set_bit ie tcon) (clear_bit ie tcon)) ≡ tcon
@@ -125,9 +125,9 @@ module _ (it ie level tcon : ℕ) where
       go false (suc (suc n)) h e = absurd (omega arith)
 
   -- where it stays it is at its level
-  external-level : level < 2 → bit ie tcon ≡ bit ie (external it ie 0 level tcon) → level_settled it ie level tcon ≡ true
+  external_level : level < 2 → bit ie tcon ≡ bit ie (external it ie 0 level tcon) → level_settled it ie level tcon ≡ true
   unfolding external
-  external-level f = go (eqb (bit it tcon) 1) level f
+  external_level f = go (eqb (bit it tcon) 1) level f
     where
       go : (edge : Bool) (level : ℕ) → level < 2
           → bit ie tcon ≡ bit ie (cond edge tcon (cond (eqb level 0) (set_bit ie tcon) (clear_bit ie tcon)))
@@ -138,9 +138,9 @@ module _ (it ie level tcon : ℕ) where
       go false (suc (suc n)) h e = absurd (omega arith)
 
   -- the other bits stay
-  external-other : (k : ℕ) → k ≢ ie → bit k (external it ie 0 level tcon) ≡ bit k tcon
+  external_other : (k : ℕ) → k ≢ ie → bit k (external it ie 0 level tcon) ≡ bit k tcon
   unfolding external
-  external-other k h =
+  external_other k h =
       chosen (λ (x : ℕ). bit k x ≡ bit k tcon) (eqb (bit it tcon) 1) tcon _ refl
       (chosen (λ (x : ℕ). bit k x ≡ bit k tcon) (eqb level 0) (set_bit ie tcon) (clear_bit ie tcon) (bit_set_other k ie tcon h) (clear_other k ie tcon h))
 
@@ -153,29 +153,29 @@ module _ (l tcon : ℕ) where
   first : ℕ
   first = external IT1 IE1 0 (bit INT1 l) zeroth
 
-  externals-are : externals (levels_of l) l tcon ≡ first
+  externals_are : externals (levels_of l) l tcon ≡ first
   unfolding externals levels_of zeroth first
-  externals-are = λ i. external IT1 IE1 (no_fall l INT1 refl i) (bit INT1 l) (external IT0 IE0 (no_fall l INT0 refl i) (bit INT0 l) tcon)
+  externals_are = λ i. external IT1 IE1 (no_fall l INT1 refl i) (bit INT1 l) (external IT0 IE0 (no_fall l INT0 refl i) (bit INT0 l) tcon)
 
-  pub externals-rest : level_settled IT0 IE0 (bit INT0 l) tcon ≡ true → level_settled IT1 IE1 (bit INT1 l) tcon ≡ true
+  pub externals_rest : level_settled IT0 IE0 (bit INT0 l) tcon ≡ true → level_settled IT1 IE1 (bit INT1 l) tcon ≡ true
       → externals (levels_of l) l tcon ≡ tcon
   unfolding zeroth first
-  externals-rest p q =
-      externals-are
-      ∙ (ap (external IT1 IE1 0 (bit INT1 l)) (external-rest IT0 IE0 (bit INT0 l) tcon (bit_below INT0 l) p)
-      ∙ external-rest IT1 IE1 (bit INT1 l) tcon (bit_below INT1 l) q)
+  externals_rest p q =
+      externals_are
+      ∙ (ap (external IT1 IE1 0 (bit INT1 l)) (external_rest IT0 IE0 (bit INT0 l) tcon (bit_below INT0 l) p)
+      ∙ external_rest IT1 IE1 (bit INT1 l) tcon (bit_below INT1 l) q)
 
   -- where step 6 leaves IE0, and IE1
-  pub externals-level0 : bit IE0 tcon ≡ bit IE0 (externals (levels_of l) l tcon) → level_settled IT0 IE0 (bit INT0 l) tcon ≡ true
+  pub externals_level0 : bit IE0 tcon ≡ bit IE0 (externals (levels_of l) l tcon) → level_settled IT0 IE0 (bit INT0 l) tcon ≡ true
   unfolding zeroth first
-  externals-level0 e =
-      external-level IT0 IE0 (bit INT0 l) tcon (bit_below INT0 l)
-      (e ∙ (ap (bit IE0) externals-are ∙ external-other IT1 IE1 (bit INT1 l) zeroth IE0 (omega arith)))
+  externals_level0 e =
+      external_level IT0 IE0 (bit INT0 l) tcon (bit_below INT0 l)
+      (e ∙ (ap (bit IE0) externals_are ∙ external_other IT1 IE1 (bit INT1 l) zeroth IE0 (omega arith)))
 
-  pub externals-level1 : bit IE1 tcon ≡ bit IE1 (externals (levels_of l) l tcon) → level_settled IT1 IE1 (bit INT1 l) tcon ≡ true
+  pub externals_level1 : bit IE1 tcon ≡ bit IE1 (externals (levels_of l) l tcon) → level_settled IT1 IE1 (bit INT1 l) tcon ≡ true
   unfolding zeroth first
-  externals-level1 e =
-      let it = external-other IT0 IE0 (bit INT0 l) tcon IT1 (omega arith) in
-      let ie = external-other IT0 IE0 (bit INT0 l) tcon IE1 (omega arith) in
+  externals_level1 e =
+      let it = external_other IT0 IE0 (bit INT0 l) tcon IT1 (omega arith) in
+      let ie = external_other IT0 IE0 (bit INT0 l) tcon IE1 (omega arith) in
       (λ i. eqb (sym it i) 1 || not (eqb (sym ie i) (bit INT1 l)))
-      ∙ external-level IT1 IE1 (bit INT1 l) zeroth (bit_below INT1 l) (ie ∙ (e ∙ ap (bit IE1) externals-are))
+      ∙ external_level IT1 IE1 (bit INT1 l) zeroth (bit_below INT1 l) (ie ∙ (e ∙ ap (bit IE1) externals_are))

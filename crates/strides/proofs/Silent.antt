@@ -10,7 +10,7 @@ use Rattle.machine.specs.Calls.{offers_to}
 use Rattle.machine.proofs.Choices.{by_test}
 use Rattle.laws.specs.Ranges.{Ranges}
 use Rattle.strides.specs.Stride.{room, awake_stride, stride_timers, stride2, stride_serial}
-use Rattle.strides.proofs.Strides.{down-stride, up-stride, stride_law}
+use Rattle.strides.proofs.Strides.{down_stride, up_stride, stride_law}
 
 pub record Silent (before after : Device) : Type 0 where
   pub flags : flags after ≡ flags before
@@ -25,5 +25,5 @@ stride_silent m l d = record { flags = refl; offers = refl }
 
 pub quiet_silent : (m pins : ℕ) (d : Device) → Ranges d → m ≤ room pins d → Silent d (cycles m pins d)
 quiet_silent m pins d r h =
-    by_test (powered_down d.pcon) (λ t. subst (Silent d) (sym (stride_law m pins d r h ∙ down-stride pins d t m)) (unmoved d))
-    (λ f. subst (Silent d) (sym (stride_law m pins d r h ∙ up-stride pins d f m)) (stride_silent m (pins_of d.kind pins) d))
+    by_test (powered_down d.pcon) (λ t. subst (Silent d) (sym (stride_law m pins d r h ∙ down_stride pins d t m)) (unmoved d))
+    (λ f. subst (Silent d) (sym (stride_law m pins d r h ∙ up_stride pins d f m)) (stride_silent m (pins_of d.kind pins) d))

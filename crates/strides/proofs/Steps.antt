@@ -20,7 +20,7 @@ use Rattle.machine.specs.Cycle.{falls, polling, externals, timers_after, timer2_
 use Rattle.laws.proofs.Bits.{flagged_none}
 use Rattle.laws.proofs.Flags.{none_rises, times_stay}
 use Rattle.strides.specs.Stride.{with_parts}
-use Rattle.strides.proofs.Settles.{Rest, no_fall, externals-rest}
+use Rattle.strides.proofs.Settles.{Rest, no_fall, externals_rest}
 
 -- step 7 of Timers 0 and 1 at rest
 timers_after_lem : (saved : List ℕ) (l : ℕ) (t : Timers) → externals saved l t.tcon ≡ t.tcon
@@ -49,15 +49,15 @@ module _ (l : ℕ) (d : Device) (r : Rest l d) where
   pub fallen : (k : ℕ) → falls (levels_of l) l k ≡ 0 → falls d.levels l k ≡ 0
   fallen k e = ap (λ (saved : List ℕ). falls saved l k) r.levels ∙ e
 
-  pub steps-rest : (c : Counted) (s : Serial) → counted d l ≡ c → serial_step (ticks_in d c) (bit RXD l) d.serial ≡ s → Kept d c s
+  pub steps_rest : (c : Counted) (s : Serial) → counted d l ≡ c → serial_step (ticks_in d c) (bit RXD l) d.serial ≡ s → Kept d c s
       → steps d l ≡ with_parts ((d.cycle + 1) % 2 ^ 64) c.timers.timers c.timer2.timer2 s d
   unfolding steps timer2_after levels_of flags any_rises
-  steps-rest c s p e k = rw (p, timers, timer2, e, still, times, ← r.levels)
+  steps_rest c s p e k = rw (p, timers, timer2, e, still, times, ← r.levels)
     where
       timers : timers_after d.levels l c.timers.timers ≡ c.timers.timers
       timers =
           timers_after_lem d.levels l c.timers.timers
-          ((λ i. externals (r.levels i) l (k.tcon i)) ∙ (externals-rest l d.timers.tcon r.level0 r.level1 ∙ sym k.tcon))
+          ((λ i. externals (r.levels i) l (k.tcon i)) ∙ (externals_rest l d.timers.tcon r.level0 r.level1 ∙ sym k.tcon))
           (fallen T0 (no_fall l T0 refl) ∙ (sym r.due0 ∙ sym k.due0)) (fallen T1 (no_fall l T1 refl) ∙ (sym r.due1 ∙ sym k.due1))
 
       timer2 : timer2_after d.levels l c.timer2.timer2 ≡ c.timer2.timer2

@@ -16,16 +16,16 @@ use Rattle.machine.specs.Cycle.{falls, counted, overflows_of, ticks_in, steps, c
 use Rattle.machine.specs.Calls.{longest}
 use Rattle.laws.specs.Ranges.{Ranges}
 use Rattle.machine.proofs.Choices.{chosen, by_test, and_two, and_both}
-use Rattle.cycle.proofs.Keeps.{cycle-ranges}
-use Rattle.cycle.proofs.Steps.{cycle-up}
-use Rattle.laws.proofs.Sleep.{cycle-down}
+use Rattle.cycle.proofs.Keeps.{cycle_ranges}
+use Rattle.cycle.proofs.Steps.{cycle_up}
+use Rattle.laws.proofs.Sleep.{cycle_down}
 use Rattle.strides.specs.Stride.{timers_settled, serial_settled, others_settled, settled_at, room_timers, room2, awake_room, room_at, stride_timers, stride2, stride_serial, with_parts, awake_stride, stride_at, room, stride}
 use Rattle.strides.proofs.Settles.{Rest, settled_rest, no_fall}
-use Rattle.strides.proofs.Steps.{fallen, steps-rest}
+use Rattle.strides.proofs.Steps.{fallen, steps_rest}
 use Rattle.strides.proofs.Runs.{number_none, number_more}
-use Rattle.strides.proofs.Timers.{quiet-timers, timers-none, timers-more, timers-left, timers-back}
-use Rattle.strides.proofs.Timer2.{quiet_timer2, timer2-none, timer2-more, timer2-left, timer2-back}
-use Rattle.strides.proofs.Serial.{quiet-serial, serial-none, serial-more, serial-settled}
+use Rattle.strides.proofs.Timers.{quiet_timers, timers_none, timers_more, timers_left, timers_back}
+use Rattle.strides.proofs.Timer2.{quiet_timer2, timer2_none, timer2_more, timer2_left, timer2_back}
+use Rattle.strides.proofs.Serial.{quiet_serial, serial_none, serial_more, serial_settled_lem}
 
 -- One cycle
 
@@ -40,20 +40,20 @@ quiet_counted l d =
 module _ (l : ℕ) (d : Device) (r : Ranges d) (s : Rest l d) (h : 1 ≤ room_timers l d.timers) (k : 1 ≤ room2 d.timer2) where
   counted_quiet : counted d l ≡ quiet_counted l d
   unfolding counted quiet_counted levels_of
-  counted_quiet = λ i. record { timers = quiet-timers l d.timers h i; timer2 = two i }
+  counted_quiet = λ i. record { timers = quiet_timers l d.timers h i; timer2 = two i }
     where
       two : timer2_step d.timer2 (falls d.levels l T2EX) ≡ record { timer2 = stride2 1 d.timer2; overflows = 0; tf2 = 0 }
       two = ap (timer2_step d.timer2) (fallen l d s T2EX (no_fall l T2EX refl)) ∙ quiet_timer2 d.timer2 s.due2 r.timer2.tl2 k
 
-  pub overflows-quiet : overflows_of (counted d l) ≡ record { timer0 = 0; th0 = 0; timer1 = 0; timer2 = 0 }
+  pub overflows_quiet : overflows_of (counted d l) ≡ record { timer0 = 0; th0 = 0; timer1 = 0; timer2 = 0 }
   unfolding quiet_counted
-  overflows-quiet = ap overflows_of counted_quiet
+  overflows_quiet = ap overflows_of counted_quiet
 
-  quiet-steps : steps d l ≡ awake_stride 1 l d
+  quiet_steps : steps d l ≡ awake_stride 1 l d
   unfolding quiet_counted ticks_in awake_stride stride_timers stride2 stride_serial
-  quiet-steps =
-      steps-rest l d s (quiet_counted l d) _ counted_quiet
-      (quiet-serial d.pcon d.timer2.t2con d.serial r.serial (bit RXD l) s.sends s.receives s.starts)
+  quiet_steps =
+      steps_rest l d s (quiet_counted l d) _ counted_quiet
+      (quiet_serial d.pcon d.timer2.t2con d.serial r.serial (bit RXD l) s.sends s.receives s.starts)
       (record { tcon = refl; due0 = refl; due1 = refl; t2con = refl; due2 = refl; scon = refl; tf2 = refl })
 
 -- Strides out of power-down
@@ -64,11 +64,11 @@ unfolding awake_room
 room_units l d e = simp e
 
 module _ (m l : ℕ) (d : Device) where
-  settled-stays : settled_at l d ≡ true → settled_at l (awake_stride m l d) ≡ true
+  settled_stays : settled_at l d ≡ true → settled_at l (awake_stride m l d) ≡ true
   unfolding settled_at others_settled timers_settled awake_stride stride_timers stride2 stride_serial
-  settled-stays e =
+  settled_stays e =
       let parts = and_two (serial_settled (bit RXD l) d.serial) (others_settled l d) e in
-      and_both _ (others_settled l d) (serial-settled (bit SMOD d.pcon) (bit RXD l) d.serial m parts.0) parts.1
+      and_both _ (others_settled l d) (serial_settled_lem (bit SMOD d.pcon) (bit RXD l) d.serial m parts.0) parts.1
 
   -- the room bounds that of each unit
   room_most : awake_room l d ≤ min (room_timers l d.timers) (room2 d.timer2)
@@ -77,34 +77,34 @@ module _ (m l : ℕ) (d : Device) where
       let least = min (room_timers l d.timers) (room2 d.timer2) in
       chosen (λ (n : ℕ). n ≤ least) (settled_at l d) least 0 (le_refl least) (omega arith)
 
-  pub room-timers : m ≤ awake_room l d → m ≤ room_timers l d.timers
-  room-timers h = le_trans h (le_trans room_most (min-le_left _ _))
+  pub room_timers_lem : m ≤ awake_room l d → m ≤ room_timers l d.timers
+  room_timers_lem h = le_trans h (le_trans room_most (min-le_left _ _))
 
-  pub room-timer2 : m ≤ awake_room l d → m ≤ room2 d.timer2
-  room-timer2 h = le_trans h (le_trans room_most (min-le_right _ _))
+  pub room_timer2 : m ≤ awake_room l d → m ≤ room2 d.timer2
+  room_timer2 h = le_trans h (le_trans room_most (min-le_right _ _))
 
   -- strides add up
-  more-at : awake_stride m l (awake_stride 1 l d) ≡ awake_stride (suc m) l d
+  more_at : awake_stride m l (awake_stride 1 l d) ≡ awake_stride (suc m) l d
   unfolding awake_stride
-  more-at =
-      λ i. with_parts (number_more m d.cycle i) (timers-more l d.timers m i) (timer2-more d.timer2 m i)
-      (serial-more (bit SMOD d.pcon) (bit RXD l) d.serial m i) d
+  more_at =
+      λ i. with_parts (number_more m d.cycle i) (timers_more l d.timers m i) (timer2_more d.timer2 m i)
+      (serial_more (bit SMOD d.pcon) (bit RXD l) d.serial m i) d
 
 -- room for k cycles after m: room for k after a stride of m
 left_at : (k m l : ℕ) (d : Device) → settled_at l d ≡ true → k + m ≤ awake_room l d → k ≤ awake_room l (awake_stride m l d)
 unfolding awake_stride
 left_at k m l d e h =
-    rw (room_units l (awake_stride m l d) (settled-stays m l d e))
-    (le-min (timers-left l d.timers k m (room-timers (k + m) l d h)) (timer2-left d.timer2 k m (room-timer2 (k + m) l d h)))
+    rw (room_units l (awake_stride m l d) (settled_stays m l d e))
+    (le-min (timers_left l d.timers k m (room_timers_lem (k + m) l d h)) (timer2_left d.timer2 k m (room_timer2 (k + m) l d h)))
 
 -- and the other way round, within a jump
 back_at : (k m l : ℕ) (d : Device) → settled_at l d ≡ true → 1 ≤ k → k + m ≤ longest
     → k ≤ awake_room l (awake_stride m l d) → k + m ≤ awake_room l d
 unfolding awake_stride
 back_at k m l d e p q h =
-    let r = rw (room_units l (awake_stride m l d) (settled-stays m l d e)) at h in
+    let r = rw (room_units l (awake_stride m l d) (settled_stays m l d e)) at h in
     rw (room_units l d e)
-    (le-min (timers-back l d.timers k m p q (le_trans r (min-le_left _ _))) (timer2-back d.timer2 k m p q (le_trans r (min-le_right _ _))))
+    (le-min (timers_back l d.timers k m p q (le_trans r (min-le_left _ _))) (timer2_back d.timer2 k m p q (le_trans r (min-le_right _ _))))
 
 -- a device with room is settled
 room_settled : (l : ℕ) (d : Device) → 1 ≤ awake_room l d → settled_at l d ≡ true
@@ -119,25 +119,25 @@ room_settled l d = go (settled_at l d)
 none_at : (l : ℕ) (d : Device) → Ranges d → awake_stride 0 l d ≡ d
 unfolding awake_stride
 none_at l d r =
-    λ i. with_parts (number_none d.cycle r.cycle i) (timers-none l d.timers r.timers.tl0 r.timers.tl1 i)
-    (timer2-none d.timer2 r.timer2.tl2 i) (serial-none (bit SMOD d.pcon) (bit RXD l) d.serial r.serial i) d
+    λ i. with_parts (number_none d.cycle r.cycle i) (timers_none l d.timers r.timers.tl0 r.timers.tl1 i)
+    (timer2_none d.timer2 r.timer2.tl2 i) (serial_none (bit SMOD d.pcon) (bit RXD l) d.serial r.serial i) d
 
 -- The three facts, and the law
 
 module _ (pins : ℕ) (d : Device) where
   -- in power-down
   module _ (t : powered_down d.pcon ≡ true) where
-    pub down-room : room pins d ≡ longest
+    pub down_room : room pins d ≡ longest
     unfolding room room_at
-    down-room = rw t
+    down_room = rw t
 
-    pub down-stride : (m : ℕ) → stride m pins d ≡ d
+    pub down_stride : (m : ℕ) → stride m pins d ≡ d
     unfolding stride stride_at
-    down-stride m = rw t
+    down_stride m = rw t
 
   -- where there is no room, it is out of power-down
-  pub no-room-up : room pins d ≡ 0 → powered_down d.pcon ≡ false
-  no-room-up z = by_test (powered_down d.pcon) (λ t. absurd (omega (arith, down-room t))) (λ f. f)
+  pub no_room_up : room pins d ≡ 0 → powered_down d.pcon ≡ false
+  no_room_up z = by_test (powered_down d.pcon) (λ t. absurd (omega (arith, down_room t))) (λ f. f)
 
   -- out of it
   module _ (f : powered_down d.pcon ≡ false) where
@@ -145,34 +145,34 @@ module _ (pins : ℕ) (d : Device) where
     unfolding room room_at
     up_room = rw f
 
-    pub up-stride : (m : ℕ) → stride m pins d ≡ awake_stride m (pins_of d.kind pins) d
+    pub up_stride : (m : ℕ) → stride m pins d ≡ awake_stride m (pins_of d.kind pins) d
     unfolding stride stride_at
-    up-stride m = rw f
+    up_stride m = rw f
 
     -- and after a stride
-    up-on : (m : ℕ) → room pins (stride m pins d) ≡ awake_room (pins_of d.kind pins) (awake_stride m (pins_of d.kind pins) d)
+    up_on : (m : ℕ) → room pins (stride m pins d) ≡ awake_room (pins_of d.kind pins) (awake_stride m (pins_of d.kind pins) d)
     unfolding room room_at awake_stride
-    up-on m = ap (room pins) (up-stride m) ∙ rw f
+    up_on m = ap (room pins) (up_stride m) ∙ rw f
 
     up_more : (m : ℕ) → stride m pins (awake_stride 1 (pins_of d.kind pins) d) ≡ awake_stride (suc m) (pins_of d.kind pins) d
     unfolding stride stride_at awake_stride
-    up_more m = rw f (more-at m (pins_of d.kind pins) d)
+    up_more m = rw f (more_at m (pins_of d.kind pins) d)
 
     pub up_rest : 1 ≤ room pins d → Rest (pins_of d.kind pins) d
     up_rest h = settled_rest (pins_of d.kind pins) d (room_settled (pins_of d.kind pins) d (rw up_room at h))
 
-  pub quiet-cycle : Ranges d → 1 ≤ room pins d → cycle_of pins d ≡ stride 1 pins d
-  quiet-cycle r h =
-      by_test (powered_down d.pcon) (λ t. cycle-down d t pins ∙ sym (down-stride t 1))
+  pub quiet_cycle : Ranges d → 1 ≤ room pins d → cycle_of pins d ≡ stride 1 pins d
+  quiet_cycle r h =
+      by_test (powered_down d.pcon) (λ t. cycle_down d t pins ∙ sym (down_stride t 1))
       (λ f.
       let l = pins_of d.kind pins in
       let k = rw (up_room f) at h in
-      cycle-up pins d f ∙ (quiet-steps l d r (up_rest f h) (room-timers 1 l d k) (room-timer2 1 l d k) ∙ sym (up-stride f 1)))
+      cycle_up pins d f ∙ (quiet_steps l d r (up_rest f h) (room_timers_lem 1 l d k) (room_timer2 1 l d k) ∙ sym (up_stride f 1)))
 
-  pub room-left : (k m : ℕ) → k + m ≤ room pins d → k ≤ room pins (stride m pins d)
-  room-left k m h =
-      by_test (powered_down d.pcon) (λ t. rw (down-stride t m) (omega arith))
-      (λ f. rw (up-on f m) (go k (rw (up_room f) at h)))
+  pub room_left : (k m : ℕ) → k + m ≤ room pins d → k ≤ room pins (stride m pins d)
+  room_left k m h =
+      by_test (powered_down d.pcon) (λ t. rw (down_stride t m) (omega arith))
+      (λ f. rw (up_on f m) (go k (rw (up_room f) at h)))
     where
       go : (k : ℕ) → k + m ≤ awake_room (pins_of d.kind pins) d
           → k ≤ awake_room (pins_of d.kind pins) (awake_stride m (pins_of d.kind pins) d)
@@ -184,28 +184,28 @@ module _ (pins : ℕ) (d : Device) where
   pub room_back : (k m : ℕ) → 1 ≤ m → m ≤ room pins d → 1 ≤ k → k + m ≤ longest
       → k ≤ room pins (stride m pins d) → k + m ≤ room pins d
   room_back k m some g p q h =
-      by_test (powered_down d.pcon) (λ t. rw (down-room t) q)
+      by_test (powered_down d.pcon) (λ t. rw (down_room t) q)
       (λ f.
       let l = pins_of d.kind pins in
       let here = rw (up_room f) at g in
-      rw (up_room f) (back_at k m l d (room_settled l d (omega arith)) p q (rw (up-on f m) at h)))
+      rw (up_room f) (back_at k m l d (room_settled l d (omega arith)) p q (rw (up_on f m) at h)))
 
-  stride-more : (m : ℕ) → stride m pins (stride 1 pins d) ≡ stride (suc m) pins d
-  stride-more m =
-      by_test (powered_down d.pcon) (λ t. ap (stride m pins) (down-stride t 1) ∙ (down-stride t m ∙ sym (down-stride t (suc m))))
-      (λ f. ap (stride m pins) (up-stride f 1) ∙ (up_more f m ∙ sym (up-stride f (suc m))))
+  stride_more : (m : ℕ) → stride m pins (stride 1 pins d) ≡ stride (suc m) pins d
+  stride_more m =
+      by_test (powered_down d.pcon) (λ t. ap (stride m pins) (down_stride t 1) ∙ (down_stride t m ∙ sym (down_stride t (suc m))))
+      (λ f. ap (stride m pins) (up_stride f 1) ∙ (up_more f m ∙ sym (up_stride f (suc m))))
 
-  stride-none : Ranges d → stride 0 pins d ≡ d
-  stride-none r =
-      by_test (powered_down d.pcon) (λ t. down-stride t 0) (λ f. up-stride f 0 ∙ none_at (pins_of d.kind pins) d r)
+  stride_none : Ranges d → stride 0 pins d ≡ d
+  stride_none r =
+      by_test (powered_down d.pcon) (λ t. down_stride t 0) (λ f. up_stride f 0 ∙ none_at (pins_of d.kind pins) d r)
 
   -- a quiet cycle leaves the rest of the room
-  pub cycle-room : Ranges d → (m : ℕ) → suc m ≤ room pins d → m ≤ room pins (cycle_of pins d)
-  cycle-room r m h = rw (quiet-cycle r (omega arith)) (room-left m 1 (omega arith))
+  pub cycle_room : Ranges d → (m : ℕ) → suc m ≤ room pins d → m ≤ room pins (cycle_of pins d)
+  cycle_room r m h = rw (quiet_cycle r (omega arith)) (room_left m 1 (omega arith))
 
 pub stride_law : (m pins : ℕ) (d : Device) → Ranges d → m ≤ room pins d → cycles m pins d ≡ stride m pins d
 unfolding cycles
-stride_law zero pins d r h = sym (stride-none pins d r)
+stride_law zero pins d r h = sym (stride_none pins d r)
 stride_law (suc m) pins d r h =
-    stride_law m pins (cycle_of pins d) (cycle-ranges d r pins) (cycle-room pins d r m h)
-    ∙ (ap (stride m pins) (quiet-cycle pins d r (omega arith)) ∙ stride-more pins d m)
+    stride_law m pins (cycle_of pins d) (cycle_ranges d r pins) (cycle_room pins d r m h)
+    ∙ (ap (stride m pins) (quiet_cycle pins d r (omega arith)) ∙ stride_more pins d m)

@@ -50,17 +50,17 @@ count_none : (t : Timer2) → t.tl2 < 256 → with_count2 (count2 t + 0) t ≡ t
 count_none t h = count2_path t (omega arith) (omega arith)
 
 module _ (t : Timer2) (e : t.due2 ≡ 0) (timer : Bool) (c : eqb (bit C/T2 t.t2con) 0 ≡ timer) where
-  baud-quiet : (timer ≡ true → count2 t + 6 < 65536)
+  baud_quiet : (timer ≡ true → count2 t + 6 < 65536)
       → baud_step t 0 ≡ record { timer2 = with_count2 (count2 t + cond timer 6 0) t; overflows = 0; tf2 = 0 }
   unfolding baud_step heeds_t2ex flagged
-  baud-quiet h =
+  baud_quiet h =
       ap (λ (s : Counted16). record { timer2 = with_count2 s.count t; overflows = s.overflows; tf2 = 0 })
       (counted_quiet 6 (rcap2 t) t e timer c h)
 
-  capture-quiet : (timer ≡ true → count2 t + 1 < 65536)
+  capture_quiet : (timer ≡ true → count2 t + 1 < 65536)
       → capture_step t 0 ≡ record { timer2 = with_count2 (count2 t + cond timer 1 0) t; overflows = 0; tf2 = 0 }
   unfolding capture_step heeds_t2ex flagged
-  capture-quiet h =
+  capture_quiet h =
       ap (λ (s : Counted16). record {
         timer2 = with_t2con (flagged TF2 s.overflows t.t2con) (with_count2 s.count t);
         overflows = s.overflows;
@@ -82,10 +82,10 @@ quiet_timer2 t e f = go (eqb (bit TR2 t.t2con) 1) (baud_rate t) (eqb (bit C/T2 t
         → cond run (cond baud (baud_step t 0) (capture_step t 0)) (still t)
         ≡ still (with_count2 (count2 t + cond (run && timer) (cond baud 6 1) 0) t)
     go false baud timer c h = ap still (sym (count_none t f))
-    go true true true c h = baud-quiet t e true c (λ _. omega arith)
-    go true false true c h = capture-quiet t e true c (λ _. omega arith)
-    go true true false c h = baud-quiet t e false c (λ x. absurd (clash x refl))
-    go true false false c h = capture-quiet t e false c (λ x. absurd (clash x refl))
+    go true true true c h = baud_quiet t e true c (λ _. omega arith)
+    go true false true c h = capture_quiet t e true c (λ _. omega arith)
+    go true true false c h = baud_quiet t e false c (λ x. absurd (clash x refl))
+    go true false false c h = capture_quiet t e false c (λ x. absurd (clash x refl))
 
 -- m counts a cycle after those of a cycle, and the room after them
 counts_more : (m count : ℕ) (moves baud : Bool)
@@ -107,29 +107,29 @@ joined : (n : ℕ) → n / 256 * 256 + n % 256 ≡ n
 joined n = omega arith
 
 module _ (t : Timer2) where
-  pub timer2-none : t.tl2 < 256 → stride2 0 t ≡ t
+  pub timer2_none : t.tl2 < 256 → stride2 0 t ≡ t
   unfolding stride2 counts2
-  timer2-none f = ap (λ (n : ℕ). with_count2 (count2 t + n) t) (go (moves2 t) (baud_rate t)) ∙ count_none t f
+  timer2_none f = ap (λ (n : ℕ). with_count2 (count2 t + n) t) (go (moves2 t) (baud_rate t)) ∙ count_none t f
     where
       go : (moves baud : Bool) → cond moves (cond baud (0 * 6) 0) 0 ≡ 0
       go true true = refl
       go true false = refl
       go false baud = refl
 
-  pub timer2-more : (m : ℕ) → stride2 m (stride2 1 t) ≡ stride2 (suc m) t
+  pub timer2_more : (m : ℕ) → stride2 m (stride2 1 t) ≡ stride2 (suc m) t
   unfolding stride2 counts2 moves2 baud_rate
-  timer2-more m =
+  timer2_more m =
       ap (λ (n : ℕ). with_count2 n t)
       (ap (λ (n : ℕ). n + counts2 m t) (joined (count2 t + counts2 1 t)) ∙ counts_more m (count2 t) (moves2 t) (baud_rate t))
 
-  timer2-room : (m : ℕ) → room2 (stride2 m t) ≡ room_of (moves2 t) (left2 t - m)
+  timer2_room : (m : ℕ) → room2 (stride2 m t) ≡ room_of (moves2 t) (left2 t - m)
   unfolding left2 stride2 counts2 moves2 baud_rate
-  timer2-room m =
+  timer2_room m =
       ap (λ (n : ℕ). room_of (moves2 t) (cond (baud_rate t) (left 16 n / 6) (left 16 n))) (joined (count2 t + counts2 m t))
       ∙ counts_room m (count2 t) (moves2 t) (baud_rate t)
 
-  pub timer2-left : (k m : ℕ) → k + m ≤ room2 t → k ≤ room2 (stride2 m t)
-  timer2-left k m h = rw (timer2-room m) (unit_room k m (moves2 t) (left2 t) h)
+  pub timer2_left : (k m : ℕ) → k + m ≤ room2 t → k ≤ room2 (stride2 m t)
+  timer2_left k m h = rw (timer2_room m) (unit_room k m (moves2 t) (left2 t) h)
 
-  pub timer2-back : (k m : ℕ) → 1 ≤ k → k + m ≤ longest → k ≤ room2 (stride2 m t) → k + m ≤ room2 t
-  timer2-back k m p q h = unit_back k m (moves2 t) (left2 t) p q (rw (timer2-room m) at h)
+  pub timer2_back : (k m : ℕ) → 1 ≤ k → k + m ≤ longest → k ≤ room2 (stride2 m t) → k + m ≤ room2 t
+  timer2_back k m p q h = unit_back k m (moves2 t) (left2 t) p q (rw (timer2_room m) at h)

@@ -15,7 +15,7 @@ use Rattle.strides.specs.Stride.{room_of, left, left_in, by8, moved, moves1, roo
 use Rattle.machine.proofs.Choices.{and_left}
 use Rattle.strides.proofs.Records.{timers_path, timers_counted_path}
 use Rattle.laws.proofs.Counting.{count_eq}
-use Rattle.strides.proofs.Pairs.{no_mode, one_count, moved_none, moved_more, moved-still, moved-room, moved_low, moved_high, left_low, unit_room, unit_back}
+use Rattle.strides.proofs.Pairs.{no_mode, one_count, moved_none, moved_more, moved_still, moved_room, moved_low, moved_high, left_low, unit_room, unit_back}
 
 -- One cycle
 
@@ -68,55 +68,55 @@ high_still false th now e h = refl
 
 -- the room of each unit
 module _ (k l : ℕ) (t : Timers) (h : k ≤ room_timers l t) where
-  pub room-low : k ≤ room_of (counts0 t l) (left_in (timer0_mode t) t.tl0 t.th0)
+  pub room_low : k ≤ room_of (counts0 t l) (left_in (timer0_mode t) t.tl0 t.th0)
   unfolding room_timers
-  room-low = omega arith
+  room_low = omega arith
 
-  pub room-high : k ≤ room_of (counts_high0 t) (left 8 t.th0)
+  pub room_high : k ≤ room_of (counts_high0 t) (left 8 t.th0)
   unfolding room_timers
-  room-high = omega arith
+  room_high = omega arith
 
-  pub room-one : k ≤ room_of (moves1 t l) (left_in (timer1_mode t) t.tl1 t.th1)
+  pub room_one : k ≤ room_of (moves1 t l) (left_in (timer1_mode t) t.tl1 t.th1)
   unfolding room_timers
-  room-one = omega arith
+  room_one = omega arith
 
 -- step 2 of a quiet cycle moves the timers by 1 and hands on no overflow
 module _ (l : ℕ) (t : Timers) where
   low0 : ℕ → Count
   low0 m = moved m (counts0 t l) (timer0_mode t) t.tl0 t.th0
 
-  pub quiet-timers : 1 ≤ room_timers l t
+  pub quiet_timers : 1 ≤ room_timers l t
       → timers_step t l ≡ record { timers = stride_timers 1 l t; overflow0 = 0; overflow_th0 = 0; overflow1 = 0 }
   unfolding timers_step stride_timers room_timers pair0 pair1 moves1 high0 high_overflow0 low0
-  quiet-timers h =
+  quiet_timers h =
       timers_counted_path
       (timers_path (set ∙ no_flags t) refl (ap (λ (c : Count). c.tl) low) (ap (λ (c : Count). c.tl) one)
-      (ap (λ (c : Count). high0 t c.th) low ∙ high_quiet (counts_high0 t) t.th0 (low0 1).th apart (room-high 1 l t h))
+      (ap (λ (c : Count). high0 t c.th) low ∙ high_quiet (counts_high0 t) t.th0 (low0 1).th apart (room_high 1 l t h))
       (ap (λ (c : Count). c.th) one) refl refl)
-      low-over high-over one-over
+      low_over high_over one_over
     where
       low : pair0 t l ≡ low0 1
-      low = low_quiet (counts0 t l) (timer0_mode t) t.tl0 t.th0 (room-low 1 l t h)
+      low = low_quiet (counts0 t l) (timer0_mode t) t.tl0 t.th0 (room_low 1 l t h)
 
       one : pair1 t l ≡ moved 1 (moves1 t l) (timer1_mode t) t.tl1 t.th1
-      one = one_quiet (counts1 t l) (timer1_mode t) t.tl1 t.th1 (mod-lt (t.tmod / 2 ^ 4) (zero-lt-suc 3)) (eqb (timer1_mode t) 3) refl (room-one 1 l t h)
+      one = one_quiet (counts1 t l) (timer1_mode t) t.tl1 t.th1 (mod-lt (t.tmod / 2 ^ 4) (zero-lt-suc 3)) (eqb (timer1_mode t) 3) refl (room_one 1 l t h)
 
       apart : counts_high0 t ≡ true → (low0 1).th ≡ t.th0
       apart e = moved_high 1 (counts0 t l) (timer0_mode t) t.tl0 t.th0 (high_mode t e)
 
-      low-over : (pair0 t l).overflow ≡ 0
-      low-over = ap (λ (c : Count). c.overflow) low ∙ moved-still (counts0 t l) (timer0_mode t) t.tl0 t.th0 1
+      low_over : (pair0 t l).overflow ≡ 0
+      low_over = ap (λ (c : Count). c.overflow) low ∙ moved_still (counts0 t l) (timer0_mode t) t.tl0 t.th0 1
 
-      one-over : (pair1 t l).overflow ≡ 0
-      one-over = ap (λ (c : Count). c.overflow) one ∙ moved-still (moves1 t l) (timer1_mode t) t.tl1 t.th1 1
+      one_over : (pair1 t l).overflow ≡ 0
+      one_over = ap (λ (c : Count). c.overflow) one ∙ moved_still (moves1 t l) (timer1_mode t) t.tl1 t.th1 1
 
-      high-over : high_overflow0 t (pair0 t l).th ≡ 0
-      high-over =
+      high_over : high_overflow0 t (pair0 t l).th ≡ 0
+      high_over =
           ap (λ (c : Count). high_overflow0 t c.th) low
-          ∙ high_still (counts_high0 t) t.th0 (low0 1).th apart (room-high 1 l t h)
+          ∙ high_still (counts_high0 t) t.th0 (low0 1).th apart (room_high 1 l t h)
 
       set : timer_flags t (pair0 t l).overflow (high_overflow0 t (pair0 t l).th) (pair1 t l).overflow ≡ timer_flags t 0 0 0
-      set = λ i. timer_flags t (low-over i) (high-over i) (one-over i)
+      set = λ i. timer_flags t (low_over i) (high_over i) (one_over i)
 
 -- TL0 and TH0 after m cycles: `high` where TH0 counts apart, which is so in mode 3 only
 abbrev high_after : ℕ → Bool → Bool → ℕ → ℕ → ℕ → ℕ
@@ -145,7 +145,7 @@ high_more m counts true mode tl th = omega arith
 low_room : (m : ℕ) (counts high : Bool) (mode tl th : ℕ) → (high ≡ true → mode ≡ 3)
     → room_of counts (left_in mode (moved m counts mode tl th).tl (high_after m counts high mode tl th))
     ≡ room_of counts (left_in mode tl th - m)
-low_room m counts false mode tl th e = moved-room counts mode tl th m
+low_room m counts false mode tl th e = moved_room counts mode tl th m
 low_room m counts true mode tl th e =
     let q = e refl in
     ap (room_of counts) (left_low mode (moved m counts mode tl th).tl (th + m) q)
@@ -165,9 +165,9 @@ high_none true th now e = omega arith
 high_none false th now e = e
 
 module _ (l : ℕ) (t : Timers) where
-  pub timers-none : t.tl0 < 256 → t.tl1 < 256 → stride_timers 0 l t ≡ t
+  pub timers_none : t.tl0 < 256 → t.tl1 < 256 → stride_timers 0 l t ≡ t
   unfolding stride_timers hold
-  timers-none f g =
+  timers_none f g =
       timers_path refl refl (ap (λ (c : Count). c.tl) low) (ap (λ (c : Count). c.tl) one)
       (high_none (counts_high0 t) t.th0 _ (ap (λ (c : Count). c.th) low)) (ap (λ (c : Count). c.th) one) refl refl
     where
@@ -177,9 +177,9 @@ module _ (l : ℕ) (t : Timers) where
       one : moved 0 (moves1 t l) (timer1_mode t) t.tl1 t.th1 ≡ hold t.tl1 t.th1
       one = moved_none (moves1 t l) (timer1_mode t) t.tl1 t.th1 g
 
-  pub timers-more : (m : ℕ) → stride_timers m l (stride_timers 1 l t) ≡ stride_timers (suc m) l t
+  pub timers_more : (m : ℕ) → stride_timers m l (stride_timers 1 l t) ≡ stride_timers (suc m) l t
   unfolding stride_timers counts0 counts1 counts_high0 moves1
-  timers-more m =
+  timers_more m =
       timers_path refl refl
       (low_more m (counts0 t l) (counts_high0 t) (timer0_mode t) t.tl0 t.th0 (high_mode t))
       (ap (λ (c : Count). c.tl) (moved_more (moves1 t l) (timer1_mode t) t.tl1 t.th1 m))
@@ -188,28 +188,28 @@ module _ (l : ℕ) (t : Timers) where
       refl refl
 
   -- the room after a stride
-  timers-room : (m : ℕ) → room_timers l (stride_timers m l t)
+  timers_room : (m : ℕ) → room_timers l (stride_timers m l t)
       ≡ min (room_of (counts0 t l) (left_in (timer0_mode t) t.tl0 t.th0 - m))
       (min (room_of (counts_high0 t) (left 8 t.th0 - m)) (room_of (moves1 t l) (left_in (timer1_mode t) t.tl1 t.th1 - m)))
   unfolding room_timers stride_timers counts0 counts1 counts_high0 moves1
-  timers-room m =
+  timers_room m =
       let low = low_room m (counts0 t l) (counts_high0 t) (timer0_mode t) t.tl0 t.th0 (high_mode t) in
       let high = high_room m (counts_high0 t) t.th0 (moved m (counts0 t l) (timer0_mode t) t.tl0 t.th0).th in
-      let one = moved-room (moves1 t l) (timer1_mode t) t.tl1 t.th1 m in
+      let one = moved_room (moves1 t l) (timer1_mode t) t.tl1 t.th1 m in
       λ i. min (low i) (min (high i) (one i))
 
   -- room for k cycles after m: room for k after a stride of m
-  pub timers-left : (k m : ℕ) → k + m ≤ room_timers l t → k ≤ room_timers l (stride_timers m l t)
-  timers-left k m h =
-      rw (timers-room m)
-      (le-min (unit_room k m (counts0 t l) _ (room-low (k + m) l t h))
-      (le-min (unit_room k m (counts_high0 t) _ (room-high (k + m) l t h)) (unit_room k m (moves1 t l) _ (room-one (k + m) l t h))))
+  pub timers_left : (k m : ℕ) → k + m ≤ room_timers l t → k ≤ room_timers l (stride_timers m l t)
+  timers_left k m h =
+      rw (timers_room m)
+      (le-min (unit_room k m (counts0 t l) _ (room_low (k + m) l t h))
+      (le-min (unit_room k m (counts_high0 t) _ (room_high (k + m) l t h)) (unit_room k m (moves1 t l) _ (room_one (k + m) l t h))))
 
   -- and the other way round, within a jump
-  pub timers-back : (k m : ℕ) → 1 ≤ k → k + m ≤ longest → k ≤ room_timers l (stride_timers m l t) → k + m ≤ room_timers l t
+  pub timers_back : (k m : ℕ) → 1 ≤ k → k + m ≤ longest → k ≤ room_timers l (stride_timers m l t) → k + m ≤ room_timers l t
   unfolding room_timers
-  timers-back k m p q h =
-      let r = rw (timers-room m) at h in
+  timers_back k m p q h =
+      let r = rw (timers_room m) at h in
       le-min (unit_back k m (counts0 t l) _ p q (le_trans r (min-le_left _ _)))
       (le-min (unit_back k m (counts_high0 t) _ p q (le_trans r (le_trans (min-le_right _ _) (min-le_left _ _))))
       (unit_back k m (moves1 t l) _ p q (le_trans r (le_trans (min-le_right _ _) (min-le_right _ _)))))

@@ -12,10 +12,10 @@ use Rattle.machine.specs.Totals.{no_totals, added, by_timer, totals_next, totals
 use Rattle.machine.proofs.Choices.{by_test}
 use Rattle.laws.specs.Ranges.{Ranges}
 use Rattle.totals.proofs.Sums.{none_added, added_none, added_on}
-use Rattle.cycle.proofs.Keeps.{cycle-ranges}
-use Rattle.cycle.proofs.Totals.{next-within}
+use Rattle.cycle.proofs.Keeps.{cycle_ranges}
+use Rattle.cycle.proofs.Totals.{next_within}
 use Rattle.strides.specs.Stride.{room}
-use Rattle.strides.proofs.Strides.{up_room, up_rest, overflows-quiet, room-timers, room-timer2, cycle-room}
+use Rattle.strides.proofs.Strides.{up_room, up_rest, overflows_quiet, room_timers_lem, room_timer2, cycle_room}
 
 pub totals_none : (n pins : ℕ) (d : Device) → n ≤ 0 → totals n pins d ≡ no_totals
 unfolding totals
@@ -42,22 +42,22 @@ quiet_next pins d r h =
     (λ up.
     let l = pins_of d.kind pins in
     let k = rw (up_room pins d up) at h in
-    rw up (ap by_timer (overflows-quiet l d r (up_rest pins d up h) (room-timers 1 l d k) (room-timer2 1 l d k))))
+    rw up (ap by_timer (overflows_quiet l d r (up_rest pins d up h) (room_timers_lem 1 l d k) (room_timer2 1 l d k))))
 
 pub quiet_totals : (m pins : ℕ) (d : Device) → Ranges d → m ≤ room pins d → totals m pins d ≡ no_totals
 unfolding totals
 quiet_totals zero pins d r h = refl
 quiet_totals (suc m) pins d r h =
     ap (λ (t : Totals). added t (totals m pins (cycle_of pins d))) (quiet_next pins d r (omega arith))
-    ∙ (none_added (totals m pins (cycle_of pins d)) ∙ quiet_totals m pins (cycle_of pins d) (cycle-ranges d r pins) (cycle-room pins d r m h))
+    ∙ (none_added (totals m pins (cycle_of pins d)) ∙ quiet_totals m pins (cycle_of pins d) (cycle_ranges d r pins) (cycle_room pins d r m h))
 
 -- the most of n cycles
 pub totals_within : (n pins : ℕ) (d : Device) → Ranges d → Within n (totals n pins d)
 unfolding totals
 totals_within zero pins d r = record { timer0 = omega arith; timer1 = omega arith; timer2 = omega arith }
 totals_within (suc n) pins d r =
-    let one = next-within d r pins in
-    let others = totals_within n pins (cycle_of pins d) (cycle-ranges d r pins) in
+    let one = next_within d r pins in
+    let others = totals_within n pins (cycle_of pins d) (cycle_ranges d r pins) in
     record {
       timer0 = omega (arith, one.timer0, others.timer0);
       timer1 = omega (arith, one.timer1, others.timer1);

@@ -43,50 +43,50 @@ module _ (tl th : ℕ) (l : tl < 256) (h : th < 256) where
       (chosen Counted (eqb mode 1) _ _ counting16 (chosen Counted (eqb mode 2) _ _ reloading p))
 
 module _ (t : Timers) (b : TimersOk t) where
-  pair0-counted : (pins : ℕ) → Counted (pair0 t pins)
+  pair0_counted : (pins : ℕ) → Counted (pair0 t pins)
   unfolding pair0
-  pair0-counted pins =
+  pair0_counted pins =
       let tl = t.tl0 in
       let th = t.th0 in
       chosen Counted (counts0 t pins) _ _
       (counting tl th b.tl0 b.th0 (timer0_mode t) (count8 tl th) (counting8 tl th b.tl0 b.th0))
       (holding tl th b.tl0 b.th0)
 
-  pair1-counted : (pins : ℕ) → Counted (pair1 t pins)
+  pair1_counted : (pins : ℕ) → Counted (pair1 t pins)
   unfolding pair1
-  pair1-counted pins =
+  pair1_counted pins =
       let tl = t.tl1 in
       let th = t.th1 in
       let held = holding tl th b.tl1 b.th1 in
       chosen Counted (counts1 t pins) _ _ (counting tl th b.tl1 b.th1 (timer1_mode t) (hold tl th) held) held
 
-  high-below : (th : ℕ) → th < 256 → high0 t th < 256
+  high_below : (th : ℕ) → th < 256 → high0 t th < 256
   unfolding high0
-  high-below th h = chosen (λ (n : ℕ). n < 256) (counts_high0 t) _ _ (next_lt 8 th) h
+  high_below th h = chosen (λ (n : ℕ). n < 256) (counts_high0 t) _ _ (next_lt 8 th) h
 
-  flags-below : (low high one : ℕ) → timer_flags t low high one < 256
+  flags_below : (low high one : ℕ) → timer_flags t low high one < 256
   unfolding timer_flags
-  flags-below low high one =
+  flags_below low high one =
       flagged_lt 8 7 (cond (eqb (timer0_mode t) 3) high one) (flagged 5 low t.tcon) (omega arith)
       (flagged_lt 8 5 low t.tcon (omega arith) b.tcon)
 
   pub step_kept : (pins : ℕ) → TimersOk (timers_step t pins).timers
   unfolding timers_step
   step_kept pins =
-      let low = pair0-counted pins in
-      let one = pair1-counted pins in
+      let low = pair0_counted pins in
+      let one = pair1_counted pins in
       record {
-        tcon = flags-below (pair0 t pins).overflow (high_overflow0 t (pair0 t pins).th) (pair1 t pins).overflow;
+        tcon = flags_below (pair0 t pins).overflow (high_overflow0 t (pair0 t pins).th) (pair1 t pins).overflow;
         tmod = b.tmod;
         tl0 = low.tl;
         tl1 = one.tl;
-        th0 = high-below (pair0 t pins).th low.th;
+        th0 = high_below (pair0 t pins).th low.th;
         th1 = one.th;
         due0 = b.due0;
         due1 = b.due1;
       }
 
-  pub high-once : (pins : ℕ) → (timers_step t pins).overflow_th0 ≤ 1
+  pub high_once : (pins : ℕ) → (timers_step t pins).overflow_th0 ≤ 1
   unfolding timers_step high_overflow0
-  high-once pins =
-      chosen (λ (n : ℕ). n ≤ 1) (counts_high0 t) _ 0 (overflow_le 8 (pair0 t pins).th (pair0-counted pins).th) (lit≤ tt)
+  high_once pins =
+      chosen (λ (n : ℕ). n ≤ 1) (counts_high0 t) _ 0 (overflow_le 8 (pair0 t pins).th (pair0_counted pins).th) (lit≤ tt)

@@ -12,11 +12,11 @@ use Rattle.machine.specs.Record.{accepted}
 use Rattle.machine.specs.Cycle.{cycles}
 use Rattle.machine.specs.Totals.{no_totals, added, totals, Within}
 use Rattle.machine.specs.Calls.{longest, most_entries, entry_pins, entry_cycles, trace_cycles, trace_totals}
-use Rattle.record.proofs.Accepted.{ranges-of}
+use Rattle.record.proofs.Accepted.{ranges_of}
 use Rattle.cycle.specs.declared.Run.{Run}
 use Rattle.totals.proofs.Sums.{none_added, added_none, part_within, within_more}
 use Rattle.jump.proofs.Keeps.{cycles_accepted}
-use Rattle.traces.proofs.Traces.{trace_within, run_end, run_on, sum-end, sum-on}
+use Rattle.traces.proofs.Traces.{trace_within, run_end, run_on, sum_end, sum_on}
 
 pub record Running (es : List ℕ) (start : Device) (run : Run) (i : ℕ) : Type 0 where
   pub within : i ≤ length es
@@ -34,31 +34,31 @@ running_first es d a e =
       good = a;
       ends = refl;
       sums = ap (λ (t : Totals). added t (trace_totals es d)) e ∙ none_added (trace_totals es d);
-      most = trace_within es d (ranges-of d a);
+      most = trace_within es d (ranges_of d a);
     }
 
 module _ {es : List ℕ} {start : Device} {run : Run} {i : ℕ} (r : Running es start run i) where
   -- there is room for the overflows of an entry
-  pub running-within : length es ≤ most_entries → Within longest run.totals
-  running-within l =
+  pub running_within : length es ≤ most_entries → Within longest run.totals
+  running_within l =
       within_more (part_within run.totals (trace_totals (drop i es) run.device) r.most r.sums) (omega arith)
 
   -- an entry
-  pub running-on : i < length es → {n pins : ℕ} {x : Run} → n ≡ entry_cycles (get_or es i 0) → pins ≡ entry_pins (get_or es i 0)
+  pub running_on : i < length es → {n pins : ℕ} {x : Run} → n ≡ entry_cycles (get_or es i 0) → pins ≡ entry_pins (get_or es i 0)
       → x.device ≡ cycles n pins run.device → x.totals ≡ added run.totals (totals n pins run.device) → Running es start x (i + 1)
-  running-on h {n} {pins} e f g k =
+  running_on h {n} {pins} e f g k =
       record {
         within = omega arith;
         good = ap accepted g ∙ cycles_accepted n pins run.device r.good;
         ends = run_on es i h run.device e f g r.ends;
-        sums = sum-on es i h run.device run.totals e f g k r.sums;
+        sums = sum_on es i h run.device run.totals e f g k r.sums;
         most = r.most;
       }
 
   -- after the last
   module _ (h : length es ≤ i) where
-    pub running-end : run.device ≡ trace_cycles es start
-    running-end = sym (run_end es i run.device h) ∙ r.ends
+    pub running_end : run.device ≡ trace_cycles es start
+    running_end = sym (run_end es i run.device h) ∙ r.ends
 
-    pub running-sum : run.totals ≡ trace_totals es start
-    running-sum = sym (added_none run.totals) ∙ (ap (added run.totals) (sym (sum-end es i run.device h)) ∙ r.sums)
+    pub running_sum : run.totals ≡ trace_totals es start
+    running_sum = sym (added_none run.totals) ∙ (ap (added run.totals) (sym (sum_end es i run.device h)) ∙ r.sums)

@@ -50,24 +50,24 @@ trace_within (e ∷ es) d r =
     }
 
 module _ (es : List ℕ) (i : ℕ) where
-  pub bad-end : length es ≤ i → first_bad (drop i es) ≡ 0
+  pub bad_end : length es ≤ i → first_bad (drop i es) ≡ 0
   unfolding first_bad
-  bad-end h = rw (drop_of_length-le es h)
+  bad_end h = rw (drop_of_length-le es h)
 
   pub run_end : (d : Device) → length es ≤ i → trace_cycles (drop i es) d ≡ d
   unfolding trace_cycles
   run_end d h = rw (drop_of_length-le es h)
 
-  pub sum-end : (d : Device) → length es ≤ i → trace_totals (drop i es) d ≡ no_totals
+  pub sum_end : (d : Device) → length es ≤ i → trace_totals (drop i es) d ≡ no_totals
   unfolding trace_totals
-  sum-end d h = rw (drop_of_length-le es h)
+  sum_end d h = rw (drop_of_length-le es h)
 
   module _ (h : i < length es) where
-    pub bad-here : (entry_fault (get_or es i 0) ≡ 0 → ⊥) → first_bad (drop i es) ≡ entry_fault (get_or es i 0)
-    bad-here f = rw (drop-cons es i 0 h) (bad_first (get_or es i 0) _ ∙ simp (ne_eqb (entry_fault (get_or es i 0)) 0 f))
+    pub bad_here : (entry_fault (get_or es i 0) ≡ 0 → ⊥) → first_bad (drop i es) ≡ entry_fault (get_or es i 0)
+    bad_here f = rw (drop-cons es i 0 h) (bad_first (get_or es i 0) _ ∙ simp (ne_eqb (entry_fault (get_or es i 0)) 0 f))
 
-    pub bad-on : entry_fault (get_or es i 0) ≡ 0 → first_bad (drop i es) ≡ first_bad (drop (i + 1) es)
-    bad-on e =
+    pub bad_on : entry_fault (get_or es i 0) ≡ 0 → first_bad (drop i es) ≡ first_bad (drop (i + 1) es)
+    bad_on e =
         rw (add-one, drop-cons es i 0 h) (bad_first (get_or es i 0) _ ∙ simp (eq-eqb (entry_fault (get_or es i 0)) 0 e))
 
     -- the entries after one that was run end where all of them end
@@ -78,16 +78,16 @@ module _ (es : List ℕ) (i : ℕ) where
         ∙ (rw (add-one, ← run_first (get_or es i 0) (drop (suc i) es) d, ← drop-cons es i 0 h) inv)
 
     -- and their overflows, with those that were added up, are those of all
-    sum-here : (d : Device)
+    sum_here : (d : Device)
         → trace_totals (drop i es) d
         ≡ added (totals (entry_cycles (get_or es i 0)) (entry_pins (get_or es i 0)) d)
         (trace_totals (drop (i + 1) es) (cycles (entry_cycles (get_or es i 0)) (entry_pins (get_or es i 0)) d))
-    sum-here d = rw (add-one, drop-cons es i 0 h) (sum_first (get_or es i 0) (drop (suc i) es) d)
+    sum_here d = rw (add-one, drop-cons es i 0 h) (sum_first (get_or es i 0) (drop (suc i) es) d)
 
-    pub sum-on : (d : Device) (sum : Totals) {n pins : ℕ} {u : Device} {t v : Totals} → n ≡ entry_cycles (get_or es i 0)
+    pub sum_on : (d : Device) (sum : Totals) {n pins : ℕ} {u : Device} {t v : Totals} → n ≡ entry_cycles (get_or es i 0)
         → pins ≡ entry_pins (get_or es i 0) → u ≡ cycles n pins d → t ≡ added sum (totals n pins d)
         → added sum (trace_totals (drop i es) d) ≡ v → added t (trace_totals (drop (i + 1) es) u) ≡ v
-    sum-on d sum e f g k inv =
+    sum_on d sum e f g k inv =
         let here = k ∙ (λ j. added sum (totals (e j) (f j) d)) in
         let after = g ∙ (λ j. cycles (e j) (f j) d) in
-        (λ j. added (here j) (trace_totals (drop (i + 1) es) (after j))) ∙ (added_on sum _ _ ∙ (ap (added sum) (sym (sum-here d)) ∙ inv))
+        (λ j. added (here j) (trace_totals (drop (i + 1) es) (after j))) ∙ (added_on sum _ _ ∙ (ap (added sum) (sym (sum_here d)) ∙ inv))

@@ -41,9 +41,9 @@ share_most (share κ ι b wishes before shares i e h) =
 
 -- calls on a device that is ready pass
 module _ (pins : ℕ) (d : Device) (ready : Ready pins d) where
-  cycle-passes : cycle_answer d pins ≡ passed_cycle (cycle_of pins d)
+  cycle_passes : cycle_answer d pins ≡ passed_cycle (cycle_of pins d)
   unfolding cycle_answer
-  cycle-passes = rw (ready.record_ok, ready.pins_accepted)
+  cycle_passes = rw (ready.record_ok, ready.pins_accepted)
 
   jump_passes : (n : ℕ) → n ≤ longest → jump_answer d pins n ≡ passed_jump (totals n pins d) (rounds n pins d) (cycles n pins d)
   unfolding jump_answer cycles_fault
@@ -61,7 +61,7 @@ cycle_makes : (pins : ℕ) (d : Device) {p : Played} → Ready pins d → Kept (
 unfolding play
 cycle_makes pins d ready k =
     let e = kept_played k in
-    let a = cycle-passes pins d ready in
+    let a = cycle_passes pins d ready in
     record {
       passed = ap (λ (p : Played). p.reply.code) e ∙ ap (λ (r : CycleAnswer). r.code) a;
       end = ap (λ (p : Played). p.device) e ∙ (ap (λ (r : CycleAnswer). r.device) a ∙ sym (cycles_one pins d));

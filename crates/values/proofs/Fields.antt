@@ -15,7 +15,7 @@ use Rattle.machine.proofs.Choices.{chosen, and_two, by_test}
 use Rattle.machine.proofs.Accepted.{Each}
 use Rattle.machine.proofs.Accepted.Each.{done, ◌&◌}
 use Rattle.laws.specs.Ranges.{Ranges}
-use Rattle.record.proofs.Accepted.{ranges-of}
+use Rattle.record.proofs.Accepted.{ranges_of}
 use Rattle.values.specs.Values.{most_at}
 
 infixl 5 ◌and◌
@@ -71,12 +71,12 @@ module _ (kind : ℕ) (v : ℕ → ℕ) where
   abbrev Fits : ℕ → Type 0
   Fits p = v p ≤ most_at p
 
-  fits-with : Ranges (device_with kind v)
+  fits_with : Ranges (device_with kind v)
       → Each (λ (l : ℕ). l ≤ 1) (v 34 ∷ v 35 ∷ v 36 ∷ v 37 ∷ v 38 ∷ v 39 ∷ v 40 ∷ [])
       → Pairs (v 41 ∷ v 43 ∷ v 45 ∷ v 47 ∷ v 49 ∷ v 51 ∷ v 53 ∷ v 55 ∷ []) (v 42 ∷ v 44 ∷ v 46 ∷ v 48 ∷ v 50 ∷ v 52 ∷ v 54 ∷ v 56 ∷ [])
       → v place_of_received ≤ 2 ^ 64 - 1 → Below Fits places
   unfolding device_with most_at Pairs
-  fits-with r (l0 & l1 & l2 & l3 & l4 & l5 & l6 & done) ((e0, n0), ((e1, n1), ((e2, n2), ((e3, n3), ((e4, n4), ((e5, n5), ((e6, n6), ((e7, n7), _)))))))) w =
+  fits_with r (l0 & l1 & l2 & l3 & l4 & l5 & l6 & done) ((e0, n0), ((e1, n1), ((e2, n2), ((e3, n3), ((e4, n4), ((e5, n5), ((e6, n6), ((e7, n7), _)))))))) w =
       let t = r.timers in
       let u = r.timer2 in
       let s = r.serial in
@@ -144,5 +144,5 @@ module _ (kind : ℕ) (v : ℕ → ℕ) where
   pub fits : accepted (device_with kind v) ≡ true → v place_of_received ≤ 2 ^ 64 - 1 → (p : ℕ) → p < places → v p ≤ most_at p
   unfolding device_with
   fits ok w =
-      let r = ranges-of (device_with kind v) ok in
-      at_place places (fits-with r (levels_each _ r.levels) (pairs_each _ _ r.times) w)
+      let r = ranges_of (device_with kind v) ok in
+      at_place places (fits_with r (levels_each _ r.levels) (pairs_each _ _ r.times) w)

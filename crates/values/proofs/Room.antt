@@ -24,26 +24,26 @@ pub look_first : (values : List ℕ) → Looking values 0
 look_first values = record { within = omega arith; rest = refl }
 
 module _ (values : List ℕ) (long : length values ≡ places) (place : ℕ) (l : Looking values place) where
-  cut-here : place < places → (leb (get_or values place 0) (most_at place) && narrow_from (place + 1) (drop (place + 1) values)) ≡ narrow values
+  cut_here : place < places → (leb (get_or values place 0) (most_at place) && narrow_from (place + 1) (drop (place + 1) values)) ≡ narrow values
   unfolding narrow_from
-  cut-here h =
+  cut_here h =
       let e : suc place ≡ place + 1 = omega arith in
       ap (λ (k : ℕ). leb (get_or values place 0) (most_at place) && narrow_from (place + 1) (drop k values)) (sym e)
       ∙ (ap (narrow_from place) (sym (drop-cons values place 0 (omega (arith, long)))) ∙ l.rest)
 
-  pub look-on : place < places → get_or values place 0 ≤ most_at place → Looking values (place + 1)
-  look-on h n =
+  pub look_on : place < places → get_or values place 0 ≤ most_at place → Looking values (place + 1)
+  look_on h n =
       record {
         within = omega arith;
-        rest = rw (le-leb _ _ n) at (cut-here h);
+        rest = rw (le-leb _ _ n) at (cut_here h);
       }
 
-  pub look-found : place < places → most_at place < get_or values place 0 → false ≡ narrow values
-  look-found h n = rw (lt-leb _ _ n) at (cut-here h)
+  pub look_found : place < places → most_at place < get_or values place 0 → false ≡ narrow values
+  look_found h n = rw (lt-leb _ _ n) at (cut_here h)
 
-  pub look-out : places ≤ place → true ≡ narrow values
+  pub look_out : places ≤ place → true ≡ narrow values
   unfolding narrow_from
-  look-out h = ap (narrow_from place) (sym (drop_of_length-le values {i = place} (omega (arith, long)))) ∙ l.rest
+  look_out h = ap (narrow_from place) (sym (drop_of_length-le values {i = place} (omega (arith, long)))) ∙ l.rest
 
 -- each of them
 narrow_at : (values : List ℕ) (from : ℕ) → narrow_from from values ≡ true → (p : ℕ) → p < length values → get_or values p 0 ≤ most_at (from + p)
@@ -65,9 +65,9 @@ narrow_all (x ∷ values) from f =
     (narrow_all values (from + 1) (λ p h. subst (λ (k : ℕ). get_or values p 0 ≤ most_at k) (omega arith) (f (suc p) (omega arith))))
 
 module _ (values : List ℕ) (long : length values ≡ places) where
-  pub cut-same : narrow values ≡ true → (p : ℕ) → cut values p ≡ get_or values p 0
+  pub cut_same : narrow values ≡ true → (p : ℕ) → cut values p ≡ get_or values p 0
   unfolding cut
-  cut-same e p =
+  cut_same e p =
       let x = get_or values p 0 in
       by_test (ltb p places)
       (λ t. let h = borrow.Author.Tests.ltb-true p places t in
@@ -78,15 +78,15 @@ module _ (values : List ℕ) (long : length values ≡ places) where
       cond_has (λ (y : ℕ). y ≡ x) (ltb (most_at p) 65536) (x % (most_at p + 1)) x (λ _. mod-eq_of_lt (omega arith)) (λ _. refl))
 
   -- with room, the device that is made is that of the values
-  pub made-same : narrow values ≡ true → (kind : ℕ) → device_with kind (cut values) ≡ device_of kind values
-  made-same e kind = ap (device_with kind) (λ i p. cut-same e p i)
+  pub made_same : narrow values ≡ true → (kind : ℕ) → device_with kind (cut values) ≡ device_of kind values
+  made_same e kind = ap (device_with kind) (λ i p. cut_same e p i)
 
   -- those of an accepted device have room
-  pub narrow-of : (kind : ℕ) → accepted (device_of kind values) ≡ true → get_or values place_of_received 0 ≤ 2 ^ 64 - 1 → narrow values ≡ true
-  narrow-of kind ok w =
+  pub narrow_of : (kind : ℕ) → accepted (device_of kind values) ≡ true → get_or values place_of_received 0 ≤ 2 ^ 64 - 1 → narrow values ≡ true
+  narrow_of kind ok w =
       narrow_all values 0 (λ p h. subst (λ (k : ℕ). get_or values p 0 ≤ most_at k) (sym (zero-add p)) (fits kind (λ q. get_or values q 0) ok w p (omega (arith, long))))
 
   -- without room, number 1 would refuse them
-  pub refused-wide : get_or values place_of_received 0 ≤ 2 ^ 64 - 1 → narrow values ≡ false → (kind : ℕ) → accepted (device_of kind values) ≡ false
-  refused-wide w e kind =
-      by_test (accepted (device_of kind values)) (λ ok. absurd (true≢false (sym (narrow-of kind ok w) ∙ e))) (λ no. no)
+  pub refused_wide : get_or values place_of_received 0 ≤ 2 ^ 64 - 1 → narrow values ≡ false → (kind : ℕ) → accepted (device_of kind values) ≡ false
+  refused_wide w e kind =
+      by_test (accepted (device_of kind values)) (λ ok. absurd (true≢false (sym (narrow_of kind ok w) ∙ e))) (λ no. no)

@@ -12,15 +12,11 @@ returns-then-not-accepts c = told reply_of_read (rw (no c.accepts.ensures c.if-n
 pub returns-in-Refused : goal.returns-in-Refused
 unfolding read_answer play
 returns-in-Refused c =
-    let p = c in
-    let f = p in
-    let s : Lacks _ _ _ = rw p.in-Refused.is at f.find-place.ensures in
-    told reply_of_read (simp (yes f.accepts.ensures f.if-not-accepts.false, s.none, s.number))
+    let s : Lacks _ _ _ = rw c.in-Refused.is at c.find-place.ensures in
+    told reply_of_read (simp (yes c.accepts.ensures c.if-not-accepts.false, s.none, s.number))
 
 pub returns-in-At : goal.returns-in-At
 unfolding read_answer play
 returns-in-At c =
-    let p = c in
-    let f = p in
-    let s : Stands _ _ _ _ = rw p.in-At.is at f.find-place.ensures in
-    told reply_of_read (simp (yes f.accepts.ensures f.if-not-accepts.false, s.has, c.value_of.ensures, s.address))
+    let s : Stands _ _ _ _ = rw c.in-At.is at c.find-place.ensures in
+    told reply_of_read (simp (yes c.accepts.ensures c.if-not-accepts.false, s.has, c.value_of.ensures, s.address))

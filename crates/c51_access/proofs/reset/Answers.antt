@@ -6,11 +6,9 @@ use Rattle.c51_access.proofs.reset.Goals as goal
 pub returns-then-not-kind_ok : goal.returns-then-not-kind_ok
 unfolding reset_answer
 returns-then-not-kind_ok c =
-    let z = c in
-    rw (no z.kind_ok.ensures z.if-not-kind_ok.true, ← z.zeros.ensures) c.refuse.ensures
+    rw (no c.kind_ok.ensures c.if-not-kind_ok.true, ← c.zeros.ensures) c.refuse.ensures
 
 pub returns : goal.returns
 unfolding reset_answer
 returns c =
-    let r = c in
-    simp (yes r.kind_ok.ensures r.if-not-kind_ok.false, r.reset_of.ensures, c.passed.ensures)
+    simp (yes c.kind_ok.ensures c.if-not-kind_ok.false, c.reset_of.ensures, c.passed.ensures)

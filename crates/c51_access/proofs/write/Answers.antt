@@ -13,20 +13,16 @@ returns-then-not-accepts c = rw (no c.accepts.ensures c.if-not-accepts.true) c.r
 pub returns-then-powered_down : goal.returns-then-powered_down
 unfolding write_answer
 returns-then-powered_down c =
-    let p = c in
-    rw (yes p.accepts.ensures p.if-not-accepts.false, sym p.powered_down.ensures ∙ c.if-powered_down.true) c.refuse-then-powered_down.ensures
+    rw (yes c.accepts.ensures c.if-not-accepts.false, sym c.powered_down.ensures ∙ c.if-powered_down.true) c.refuse-then-powered_down.ensures
 
 pub returns-in-Refused : goal.returns-in-Refused
 unfolding write_answer
 returns-in-Refused c =
-    let p = c in
-    let f = p in
-    let w = f in
-    let s : Lacks _ _ _ = rw p.in-Refused.is at f.find-place.ensures in
+    let s : Lacks _ _ _ = rw c.in-Refused.is at c.find-place.ensures in
     simp (
       c.refuse-in-Refused.ensures,
-      yes w.accepts.ensures w.if-not-accepts.false,
-      sym w.powered_down.ensures ∙ f.if-powered_down.false,
+      yes c.accepts.ensures c.if-not-accepts.false,
+      sym c.powered_down.ensures ∙ c.if-powered_down.false,
       s.none,
       s.number,
     )
@@ -34,13 +30,10 @@ returns-in-Refused c =
 pub returns-in-At : goal.returns-in-At
 unfolding write_answer
 returns-in-At c =
-    let p = c in
-    let f = p in
-    let w = f in
-    let s : Stands _ _ _ _ = rw p.in-At.is at f.find-place.ensures in
+    let s : Stands _ _ _ _ = rw c.in-At.is at c.find-place.ensures in
     simp (
-      yes w.accepts.ensures w.if-not-accepts.false,
-      sym w.powered_down.ensures ∙ f.if-powered_down.false,
+      yes c.accepts.ensures c.if-not-accepts.false,
+      sym c.powered_down.ensures ∙ c.if-powered_down.false,
       s.has,
       c.passed.ensures,
       c.stored.ensures,

@@ -11,20 +11,14 @@ returns-then-not-accepts c = rw (no c.accepts.ensures c.if-not-accepts.true) c.r
 pub returns-then-powered_down : goal.returns-then-powered_down
 unfolding return_answer
 returns-then-powered_down c =
-    let p = c in
-    rw (yes p.accepts.ensures p.if-not-accepts.false, sym p.powered_down.ensures ∙ c.if-powered_down.true) c.refuse-then-powered_down.ensures
+    rw (yes c.accepts.ensures c.if-not-accepts.false, sym c.powered_down.ensures ∙ c.if-powered_down.true) c.refuse-then-powered_down.ensures
 
 pub returns-then-none_in_service : goal.returns-then-none_in_service
 unfolding return_answer
 returns-then-none_in_service c =
-    let s = c in
-    let p = s in
-    rw (yes p.accepts.ensures p.if-not-accepts.false, sym p.powered_down.ensures ∙ s.if-powered_down.false, sym s.none_in_service.ensures ∙ c.if-none_in_service.true) c.refuse-then-none_in_service.ensures
+    rw (yes c.accepts.ensures c.if-not-accepts.false, sym c.powered_down.ensures ∙ c.if-powered_down.false, sym c.none_in_service.ensures ∙ c.if-none_in_service.true) c.refuse-then-none_in_service.ensures
 
 pub returns : goal.returns
 unfolding return_answer
 returns c =
-    let r = c in
-    let s = r in
-    let p = s in
-    rw (yes p.accepts.ensures p.if-not-accepts.false, sym p.powered_down.ensures ∙ s.if-powered_down.false, sym s.none_in_service.ensures ∙ r.if-none_in_service.false) (rw r.returned-i.ensures at c.passed.ensures)
+    rw (yes c.accepts.ensures c.if-not-accepts.false, sym c.powered_down.ensures ∙ c.if-powered_down.false, sym c.none_in_service.ensures ∙ c.if-none_in_service.false) (rw c.returned-i.ensures at c.passed.ensures)

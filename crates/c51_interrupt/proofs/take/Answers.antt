@@ -7,8 +7,8 @@ use Rattle.machine.specs.Registers.{IDL}
 use Rattle.machine.specs.Calls.{take_answer, take_of}
 use Rattle.machine.specs.Interrupts.{source}
 use Rattle.laws.proofs.Bits.{clear_bit_lem}
-use Rattle.record.proofs.Accepted.{ranges-of}
-use Rattle.interrupts.proofs.Ranges.{offered-below, offered-none}
+use Rattle.record.proofs.Accepted.{ranges_of}
+use Rattle.interrupts.proofs.Ranges.{offered_below, offered_none}
 use Rattle.laws.proofs.Guards.{yes, no}
 use Rattle.c51_interrupt.proofs.take.Goals as goal
 
@@ -19,37 +19,27 @@ returns-then-not-accepts c = rw (no c.accepts.ensures c.if-not-accepts.true) c.r
 pub returns-then-powered_down : goal.returns-then-powered_down
 unfolding take_answer
 returns-then-powered_down c =
-    let p = c in
-    rw (yes p.accepts.ensures p.if-not-accepts.false, sym p.powered_down.ensures ∙ c.if-powered_down.true) c.refuse_take-then-powered_down.ensures
+    rw (yes c.accepts.ensures c.if-not-accepts.false, sym c.powered_down.ensures ∙ c.if-powered_down.true) c.refuse_take-then-powered_down.ensures
 
 pub returns-then-source-ge-NONE : goal.returns-then-source-ge-NONE
 unfolding take_answer take_of
 returns-then-source-ge-NONE c =
-    let o = c in
-    let p = o in
-    let a = p in
-    let e = o.offered-source.ensures in
-    let d = a.args.d in
-    rw (yes a.accepts.ensures p.if-not-accepts.false, sym p.powered_down.ensures ∙ o.if-powered_down.false, offered-none d.pcon d.interrupts (omega (arith, e))) c.refuse_take-then-source-ge-NONE.ensures
+    let e = c.offered-source.ensures in
+    let d = c.args.d in
+    rw (yes c.accepts.ensures c.if-not-accepts.false, sym c.powered_down.ensures ∙ c.if-powered_down.false, offered_none d.pcon d.interrupts (omega (arith, e))) c.refuse_take-then-source-ge-NONE.ensures
 
 pub returns : goal.returns
 unfolding take_answer take_of
 returns c =
-    let t = c in
-    let i = t in
-    let v = i in
-    let o = v in
-    let p = o in
-    let a = p in
-    let e = o.offered-source.ensures in
-    let d = a.args.d in
-    let ok = yes a.accepts.ensures p.if-not-accepts.false in
+    let e = c.offered-source.ensures in
+    let d = c.args.d in
+    let ok = yes c.accepts.ensures c.if-not-accepts.false in
     simp (
       ok,
-      sym p.powered_down.ensures ∙ o.if-powered_down.false,
-      offered-below d.pcon d.interrupts (omega (arith, e)) ∙ ap source (sym e),
-      v.vector_of-vector.ensures,
-      i.in_service-i.ensures,
-      t.taken-tcon.ensures,
-      clear_bit_lem IDL (lit< tt) d.pcon (ranges-of d ok).pcon,
+      sym c.powered_down.ensures ∙ c.if-powered_down.false,
+      offered_below d.pcon d.interrupts (omega (arith, e)) ∙ ap source (sym e),
+      c.vector_of-vector.ensures,
+      c.in_service-i.ensures,
+      c.taken-tcon.ensures,
+      clear_bit_lem IDL (lit< tt) d.pcon (ranges_of d ok).pcon,
     )

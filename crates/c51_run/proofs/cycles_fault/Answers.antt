@@ -11,17 +11,14 @@ returns-then-not-accepts c = rw (no c.accepts.ensures c.if-not-accepts.true)
 pub returns-then-not-pins_ok : goal.returns-then-not-pins_ok
 unfolding cycles_fault
 returns-then-not-pins_ok c =
-    let p = c in
-    rw (yes p.accepts.ensures p.if-not-accepts.false, no p.pins_ok.ensures c.if-not-pins_ok.true)
+    rw (yes c.accepts.ensures c.if-not-accepts.false, no c.pins_ok.ensures c.if-not-pins_ok.true)
 
 pub returns-then-n-gt-LONGEST : goal.returns-then-n-gt-LONGEST
 unfolding cycles_fault
 returns-then-n-gt-LONGEST c =
-    let p = c in
-    rw (yes p.accepts.ensures p.if-not-accepts.false, yes p.pins_ok.ensures c.if-not-pins_ok.false, lt-leb _ _ c.if-n-gt-LONGEST.true)
+    rw (yes c.accepts.ensures c.if-not-accepts.false, yes c.pins_ok.ensures c.if-not-pins_ok.false, lt-leb _ _ c.if-n-gt-LONGEST.true)
 
 pub returns : goal.returns
 unfolding cycles_fault
 returns c =
-    let p = c in
-    rw (yes p.accepts.ensures p.if-not-accepts.false, yes p.pins_ok.ensures c.if-not-pins_ok.false, le-leb _ _ c.if-n-gt-LONGEST.false)
+    rw (yes c.accepts.ensures c.if-not-accepts.false, yes c.pins_ok.ensures c.if-not-pins_ok.false, le-leb _ _ c.if-n-gt-LONGEST.false)

@@ -5,7 +5,7 @@ use Rattle.machine.specs.declared.Totals.{Totals}
 use Rattle.machine.specs.Totals.{added, totals}
 use Rattle.machine.specs.Calls.{longest, passed_jump, jump_answer}
 use Rattle.totals.proofs.Sums.{none_added, none_within}
-use Rattle.jump.proofs.Taken.{ready-taken, run-taken, laps-taken, count-taken}
+use Rattle.jump.proofs.Taken.{ready_taken, run_taken, laps_taken, count_taken}
 use Rattle.c51_run.proofs.Faults.{made}
 use Rattle.c51_run.proofs.jump.Goals as goal
 
@@ -17,23 +17,17 @@ returns-then-bad-ne-PASSED c =
 
 pub advance-r-requires : goal.advance-r-requires
 advance-r-requires c =
-    let e = c in
-    let f = e in
-    let x = f.args in
-    let m = made x.d x.pins x.n f.cycles_fault-bad.ensures e.if-bad-ne-PASSED.false in
-    (ready-taken x.pins x.d c.pins_of.ensures m.good, m.within, none_within c.none.ensures longest)
+    let x = c.args in
+    let m = made x.d x.pins x.n c.cycles_fault-bad.ensures c.if-bad-ne-PASSED.false in
+    (ready_taken x.pins x.d c.pins_of.ensures m.good, m.within, none_within c.none.ensures longest)
 
 pub returns : goal.returns
 unfolding jump_answer
 returns c =
-    let r = c in
-    let l = r in
-    let e = l in
-    let f = e in
-    let x = f.args in
-    let none = l.none.ensures in
-    let ran = run-taken x.pins x.d l.pins_of.ensures x.n r.advance-r.ensures.2 in
-    let sum = laps-taken x.pins x.d l.pins_of.ensures x.n _ r.advance-r.ensures.1 in
-    let count = count-taken x.pins x.d l.pins_of.ensures x.n r.advance-r.ensures.0 in
+    let x = c.args in
+    let none = c.none.ensures in
+    let ran = run_taken x.pins x.d c.pins_of.ensures x.n c.advance-r.ensures.2 in
+    let sum = laps_taken x.pins x.d c.pins_of.ensures x.n _ c.advance-r.ensures.1 in
+    let count = count_taken x.pins x.d c.pins_of.ensures x.n c.advance-r.ensures.0 in
     let laps = sum ∙ (ap (λ (t : Totals). added t (totals x.n x.pins x.d)) none ∙ none_added (totals x.n x.pins x.d)) in
-    rw (eq-eqb _ _ (sym f.cycles_fault-bad.ensures ∙ e.if-bad-ne-PASSED.false)) (c.passed_jump.ensures ∙ (λ i. passed_jump (laps i) (count i) (ran i)))
+    rw (eq-eqb _ _ (sym c.cycles_fault-bad.ensures ∙ c.if-bad-ne-PASSED.false)) (c.passed_jump.ensures ∙ (λ i. passed_jump (laps i) (count i) (ran i)))

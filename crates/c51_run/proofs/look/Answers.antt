@@ -3,8 +3,8 @@ use mathlib.Core.Path.{sym, ◌∙◌}
 use borrow.Author.Tests.{eq-eqb, ne_eqb}
 use Rattle.machine.specs.Calls.{look_answer}
 use Rattle.machine.specs.Lists.{play, reply_of_look}
-use Rattle.jump.proofs.Taken.{ready-taken}
-use Rattle.looks.proofs.Taken.{rise-taken}
+use Rattle.jump.proofs.Taken.{ready_taken}
+use Rattle.looks.proofs.Taken.{rise_taken}
 use Rattle.laws.proofs.Guards.{told}
 use Rattle.c51_run.proofs.Faults.{made}
 use Rattle.c51_run.proofs.look.Goals as goal
@@ -17,16 +17,13 @@ returns-then-bad-ne-PASSED c =
 
 pub first_rise-requires : goal.first_rise-requires
 first_rise-requires c =
-    let f = c in
-    let x = f.args in
-    let m = made x.d x.pins x.n f.cycles_fault-bad.ensures c.if-bad-ne-PASSED.false in
-    (ready-taken x.pins x.d c.pins_of.ensures m.good, m.within)
+    let x = c.args in
+    let m = made x.d x.pins x.n c.cycles_fault-bad.ensures c.if-bad-ne-PASSED.false in
+    (ready_taken x.pins x.d c.pins_of.ensures m.good, m.within)
 
 pub returns : goal.returns
 unfolding look_answer play
 returns c =
-    let l = c in
-    let f = l in
-    let x = f.args in
-    let first = rise-taken x.pins x.d l.pins_of.ensures x.n c.first_rise.ensures in
-    told reply_of_look (rw (eq-eqb _ _ (sym f.cycles_fault-bad.ensures ∙ l.if-bad-ne-PASSED.false)) first)
+    let x = c.args in
+    let first = rise_taken x.pins x.d c.pins_of.ensures x.n c.first_rise.ensures in
+    told reply_of_look (rw (eq-eqb _ _ (sym c.cycles_fault-bad.ensures ∙ c.if-bad-ne-PASSED.false)) first)

@@ -14,20 +14,16 @@ returns-then-not-accepts c = rw (no c.accepts.ensures c.if-not-accepts.true) c.r
 pub returns-then-fault-ne-PASSED : goal.returns-then-fault-ne-PASSED
 unfolding trace_answer
 returns-then-fault-ne-PASSED c =
-    let f = c in
-    let e = f.trace_fault-fault.ensures in
-    rw (yes f.accepts.ensures f.if-not-accepts.false, ne_eqb _ _ (λ z. c.if-fault-ne-PASSED.true (e ∙ z)), ← e) c.refuse_run-then-fault-ne-PASSED.ensures
+    let e = c.trace_fault-fault.ensures in
+    rw (yes c.accepts.ensures c.if-not-accepts.false, ne_eqb _ _ (λ z. c.if-fault-ne-PASSED.true (e ∙ z)), ← e) c.refuse_run-then-fault-ne-PASSED.ensures
 
 pub run_entries-r-requires : goal.run_entries-r-requires
 run_entries-r-requires c =
-    let f = c in
-    (yes f.accepts.ensures f.if-not-accepts.false, few_entries _ (sym f.trace_fault-fault.ensures ∙ c.if-fault-ne-PASSED.false))
+    (yes c.accepts.ensures c.if-not-accepts.false, few_entries _ (sym c.trace_fault-fault.ensures ∙ c.if-fault-ne-PASSED.false))
 
 pub returns : goal.returns
 unfolding trace_answer
 returns c =
-    let r = c in
-    let f = r in
-    let ran = r.run_entries-r.ensures in
-    rw (yes f.accepts.ensures f.if-not-accepts.false, eq-eqb _ _ (sym f.trace_fault-fault.ensures ∙ r.if-fault-ne-PASSED.false))
+    let ran = c.run_entries-r.ensures in
+    rw (yes c.accepts.ensures c.if-not-accepts.false, eq-eqb _ _ (sym c.trace_fault-fault.ensures ∙ c.if-fault-ne-PASSED.false))
     (c.passed_run.ensures ∙ (λ i. passed_run (ran.0 i) (ran.1 i)))

@@ -10,7 +10,7 @@ use mir.Syntax.{w64}
 use mir.Val.{Fits}
 use Rattle.machine.specs.Record.{accepted}
 use Rattle.machine.specs.Checkpoint.{holds, places, place_of_received, place_of_sbuf}
-use Rattle.values.proofs.Room.{made-same, refused-wide}
+use Rattle.values.proofs.Room.{made_same, refused_wide}
 use Rattle.checkpoint.proofs.holds.Goals as goal
 
 -- the test of the received byte
@@ -23,16 +23,13 @@ unfolding holds
 returns-else-narrow c =
     let wide : Fits w64 (get_or c.args.v place_of_received 0) = search (rules, c.well_formed) in
     let long : length c.args.v ≡ places = search (rules, c.well_formed) in
-    let s = c in
     let e = sym c.narrow.ensures ∙ c.if-narrow.false in
-    simp (refused-wide s.args.v long (omega (arith, wide)) e s.args.kind)
+    simp (refused_wide c.args.v long (omega (arith, wide)) e c.args.kind)
 
 pub returns-then-narrow : goal.returns-then-narrow
 unfolding holds
 returns-then-narrow c =
     let long : length c.args.v ≡ places = search (rules, c.well_formed) in
-    let d = c in
-    let s = d in
-    let e = sym d.narrow.ensures ∙ d.if-narrow.true in
-    ap₂ ◌&&◌ (c.accepts.ensures ∙ ap accepted (d.device_of-d.ensures ∙ made-same s.args.v long e s.args.kind))
-    (either (eqb s.args.place place_of_received) (eqb (get_or s.args.v place_of_received 0) (get_or s.args.v place_of_sbuf 0)))
+    let e = sym c.narrow.ensures ∙ c.if-narrow.true in
+    ap₂ ◌&&◌ (c.accepts.ensures ∙ ap accepted (c.device_of-d.ensures ∙ made_same c.args.v long e c.args.kind))
+    (either (eqb c.args.place place_of_received) (eqb (get_or c.args.v place_of_received 0) (get_or c.args.v place_of_sbuf 0)))

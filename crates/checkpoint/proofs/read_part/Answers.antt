@@ -5,30 +5,26 @@ use native.Mathlib.Omega.{arith}
 use lib.ListN.{length, take, drop}
 use Rattle.machine.specs.Checkpoint.{number_of, width_of}
 use Rattle.checkpoint.specs.Reads.{fault_of, state_of}
-use Rattle.checkpoint.proofs.Steps.{step-faulty, step-short, step-whole}
+use Rattle.checkpoint.proofs.Steps.{step_faulty, step_short, step_whole}
 use Rattle.checkpoint.proofs.read_part.Goals as goal
 
 pub returns-then-r-ne-PASSED : goal.returns-then-r-ne-PASSED
 returns-then-r-ne-PASSED c =
-    let s = c in
-    (step-faulty _ _ s.args.p s.args.r c.if-r-ne-PASSED.true, s.requires.1.1)
+    (step_faulty _ _ c.args.p c.args.r c.if-r-ne-PASSED.true, c.requires.1.1)
 
 pub overflow_sub-file : goal.overflow_sub-file
 overflow_sub-file c = c.requires.1.1
 
 pub returns-then-file-at : goal.returns-then-file-at
 returns-then-file-at c =
-    let w = c in
-    let s = w in
-    (step-short _ _ s.args.p s.args.r w.if-r-ne-PASSED.false s.requires.1.1 (rw w.width_of-width.ensures at c.if-file-at.true), s.requires.1.1)
+    (step_short _ _ c.args.p c.args.r c.if-r-ne-PASSED.false c.requires.1.1 (rw c.width_of-width.ensures at c.if-file-at.true), c.requires.1.1)
 
 pub number-n-requires : goal.number-n-requires
 number-n-requires c =
     let whole : width_of c.args.p ≤ length c.args.file.now - c.args.r.at = rw c.width_of-width.ensures at c.if-file-at.false in
-    let s = c in
-    let h = s.requires.1.1 in
+    let h = c.requires.1.1 in
     let e = c.width_of-width.ensures in
-    (omega (arith, whole), rw e s.requires.1.0)
+    (omega (arith, whole), rw e c.requires.1.0)
 
 pub taken-v-requires : goal.taken-v-requires
 taken-v-requires c = c.requires.0
@@ -36,28 +32,22 @@ taken-v-requires c = c.requires.0
 pub overflow_add-result : goal.overflow_add-result
 overflow_add-result c =
     let whole : width_of c.args.p ≤ length c.args.file.now - c.args.r.at = rw c.width_of-width.ensures at c.if-file-at.false in
-    let e = c in
-    let s = e in
-    let h = s.requires.1.1 in
-    omega (arith, whole, e.width_of-width.ensures)
+    let h = c.requires.1.1 in
+    omega (arith, whole, c.width_of-width.ensures)
 
 pub returns : goal.returns
 returns c =
     let whole : width_of c.args.p ≤ length c.args.file.now - c.args.r.at = rw c.width_of-width.ensures at c.if-file-at.false in
-    let t = c in
-    let m = t in
-    let e = m in
-    let s = e in
-    let file = s.args.file.now in
-    let p = s.args.p in
-    let r = s.args.r in
-    let kind = s.args.kind in
-    let n = m.number-n.result in
-    let w = e.width_of-width.ensures in
-    let v = t.taken-v.ensures in
-    let number = m.number-n.ensures ∙ ap (λ (k : ℕ). number_of (take k (drop r.at file))) w in
+    let file = c.args.file.now in
+    let p = c.args.p in
+    let r = c.args.r in
+    let kind = c.args.kind in
+    let n = c.number-n.result in
+    let w = c.width_of-width.ensures in
+    let v = c.taken-v.ensures in
+    let number = c.number-n.ensures ∙ ap (λ (k : ℕ). number_of (take k (drop r.at file))) w in
     let code = c.fault-code.ensures ∙ ap (fault_of kind p n) v in (
       (λ k. state_of file (record { code = code k; at = r.at + w k; values = v k }))
-          ∙ step-whole kind file p r e.if-r-ne-PASSED.false s.requires.1.1 whole n number,
-      let h = s.requires.1.1 in omega (arith, w, whole),
+          ∙ step_whole kind file p r c.if-r-ne-PASSED.false c.requires.1.1 whole n number,
+      let h = c.requires.1.1 in omega (arith, w, whole),
     )

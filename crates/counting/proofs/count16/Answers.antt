@@ -11,9 +11,8 @@ overflow_cast-result c = simp bits (omega arith)
 pub returns : goal.returns
 unfolding count16
 returns c =
-    let b = c in
-    let a = b.args in
+    let a = c.args in
     let n = pair16 a.tl a.th in
-    let e : b.wrapping_add_u16-n.result ≡ next 16 n = simp b.pair16.ensures at b.wrapping_add_u16-n.ensures.value in
-    count_eq (low8 b.wrapping_add_u16-n.result ∙ ap (λ (m : ℕ). m % 256) e) (ap (λ (m : ℕ). m / 256) e)
+    let e : c.wrapping_add_u16-n.result ≡ next 16 n = simp c.pair16.ensures at c.wrapping_add_u16-n.ensures.value in
+    count_eq (low8 c.wrapping_add_u16-n.result ∙ ap (λ (m : ℕ). m % 256) e) (ap (λ (m : ℕ). m / 256) e)
     (c.picked.ensures ∙ simp e (carry 16 n (omega arith)))

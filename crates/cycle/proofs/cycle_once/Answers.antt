@@ -9,39 +9,31 @@ use Rattle.machine.specs.Cycle.{counted, overflows_of}
 use Rattle.machine.specs.Totals.{added, by_timer}
 use Rattle.laws.proofs.Flags.{times_stay}
 use Rattle.laws.proofs.Bits.{bits, and_one}
-use Rattle.record.proofs.Accepted.{ranges-of}
+use Rattle.record.proofs.Accepted.{ranges_of}
 use Rattle.totals.proofs.Sums.{low_fits}
 use Rattle.cycle.proofs.Keeps.{ticks_ok}
-use Rattle.cycle.proofs.Totals.{counted-within}
-use Rattle.cycle.proofs.Steps.{steps-are}
+use Rattle.cycle.proofs.Totals.{counted_within}
+use Rattle.cycle.proofs.Steps.{steps_are}
 use Rattle.cycle.proofs.cycle_once.Goals as goal
 
 pub counted-c-requires : goal.counted-c-requires
-counted-c-requires c = let a = c in
-    (ranges-of a.args.run.device a.requires.0).levels
+counted-c-requires c = (ranges_of c.args.run.device c.requires.0).levels
 
 -- the sum fits
 pub added-sum-requires : goal.added-sum-requires
 added-sum-requires c =
-    let o = c in
-    let n = o in
-    let a = n in
-    let w = counted-within a.args.run.device (ranges-of a.args.run.device a.requires.0) a.args.pins in
-    low_fits a.requires.1 (rw (c.by_timer.ensures, o.overflows_of.ensures, n.counted-c.ensures) w)
+    let w = counted_within c.args.run.device (ranges_of c.args.run.device c.requires.0) c.args.pins in
+    low_fits c.requires.1 (rw (c.by_timer.ensures, c.overflows_of.ensures, c.counted-c.ensures) w)
 
 pub serial_step-s-requires : goal.serial_step-s-requires
 serial_step-s-requires c =
-    let n = c in
-    let a = n in
-    let d = a.args.run.device in record { ticks_ok = ticks_ok d a.requires.0 _ n.counted-c.ensures c.ticks_in-k.ensures; rxd_bound = omega (arith, and_one a.args.pins 0); serial_ok = (ranges-of d a.requires.0).serial }
+    let d = c.args.run.device in record { ticks_ok = ticks_ok d c.requires.0 _ c.counted-c.ensures c.ticks_in-k.ensures; rxd_bound = omega (arith, and_one c.args.pins 0); serial_ok = (ranges_of d c.requires.0).serial }
 
 pub timers_after-t-requires : goal.timers_after-t-requires
-timers_after-t-requires c = let a = c in
-    (ranges-of a.args.run.device a.requires.0).levels
+timers_after-t-requires c = (ranges_of c.args.run.device c.requires.0).levels
 
 pub timer2_after-u-requires : goal.timer2_after-u-requires
-timer2_after-u-requires c = let a = c in
-    (ranges-of a.args.run.device a.requires.0).levels
+timer2_after-u-requires c = (ranges_of c.args.run.device c.requires.0).levels
 
 -- the sum is of the overflows that were counted
 laps : (r : Totals) {sum by : Totals} {o : Overflows} {c : Counted} (d : Device) (pins : ℕ)
@@ -53,7 +45,7 @@ pub returns-then-not-any_rises : goal.returns-then-not-any_rises
 unfolding flags any_rises
 returns-then-not-any_rises c = (
   laps c.args.run.totals c.args.run.device c.args.pins c.counted-c.ensures c.overflows_of.ensures c.by_timer.ensures c.added-sum.ensures,
-  steps-are c.args.run.device c.args.pins c.counted-c.ensures c.ticks_in-k.ensures (simp bits) c.serial_step-s.ensures
+  steps_are c.args.run.device c.args.pins c.counted-c.ensures c.ticks_in-k.ensures (simp bits) c.serial_step-s.ensures
       c.timers_after-t.ensures c.timer2_after-u.ensures c.flagged-polled.ensures c.seen_of-seen.ensures c.levels_of-now.ensures
       c.wrapping_add_u64-number.ensures.value
       (sym (times_stay _ _ _ (sym c.any_rises.ensures ∙ c.if-not-any_rises.true))),
@@ -63,7 +55,7 @@ pub returns : goal.returns
 unfolding flags
 returns c = (
   laps c.args.run.totals c.args.run.device c.args.pins c.counted-c.ensures c.overflows_of.ensures c.by_timer.ensures c.added-sum.ensures,
-  steps-are c.args.run.device c.args.pins c.counted-c.ensures c.ticks_in-k.ensures (simp bits) c.serial_step-s.ensures
+  steps_are c.args.run.device c.args.pins c.counted-c.ensures c.ticks_in-k.ensures (simp bits) c.serial_step-s.ensures
       c.timers_after-t.ensures c.timer2_after-u.ensures c.flagged-polled.ensures c.seen_of-seen.ensures c.levels_of-now.ensures
       c.wrapping_add_u64-number.ensures.value
       c.times_after-e.ensures,

@@ -7,8 +7,7 @@ use Rattle.cycle.proofs.timers_after.Goals as goal
 pub returns : goal.returns
 unfolding timers_after externals
 returns c =
-    let b = c in
-    simp (c.falls-2.ensures, c.falls.ensures, c.external-with_both.ensures, b.external-with_ie0.ensures, b.falls-fell1.ensures, b.falls-fell0.ensures, bits)
+    simp (c.falls-2.ensures, c.falls.ensures, c.external-with_both.ensures, c.external-with_ie0.ensures, c.falls-fell1.ensures, c.falls-fell0.ensures, bits)
 
 pub falls-fell0-requires : goal.falls-fell0-requires
 falls-fell0-requires c = record { pin_bound = search rules; saved_value = c.requires }

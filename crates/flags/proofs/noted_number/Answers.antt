@@ -8,13 +8,6 @@ use Rattle.flags.proofs.noted_number.Goals as goal
 pub returns : goal.returns
 unfolding noted
 returns c =
-    let c7 = c in
-    let c6 = c7 in
-    let c5 = c6 in
-    let c4 = c5 in
-    let c3 = c4 in
-    let c2 = c3 in
-    let c1 = c2 in
-    let a = c1.args in
-    simp (c.picked64-8.ensures, c7.picked64-7.ensures, c6.picked64-6.ensures, c5.picked64-5.ensures, c4.picked64-4.ensures, c3.picked64-3.ensures, c2.picked64-2.ensures, c1.picked64.ensures)
-    (λ i. noted a.cycle (whole false 8 a.r (search (rules, c1.well_formed)) i) (whole 0 8 a.n (search (rules, c1.well_formed)) i))
+    let a = c.args in
+    simp (c.picked64-8.ensures, c.picked64-7.ensures, c.picked64-6.ensures, c.picked64-5.ensures, c.picked64-4.ensures, c.picked64-3.ensures, c.picked64-2.ensures, c.picked64.ensures)
+    (λ i. noted a.cycle (whole false 8 a.r (search (rules, c.well_formed)) i) (whole 0 8 a.n (search (rules, c.well_formed)) i))

@@ -8,11 +8,7 @@ use Rattle.interrupts.proofs.choice.Goals as goal
 
 pub returns : goal.returns
 returns c =
-    let high = c in
-    let chosen = high in
-    let low = chosen in
-    let enabled = low in
-    let a = enabled.args in
+    let a = c.args in
     λ seen.
-    simp (c.first_of.ensures, high.picked.ensures, chosen.picked-chosen.ensures, low.picked-unmarked.ensures, enabled.picked-enabled.ensures, and_one a.ie EA)
+    simp (c.first_of.ensures, c.picked.ensures, c.picked-chosen.ensures, c.picked-unmarked.ensures, c.picked-enabled.ensures, and_one a.ie EA)
     (ap number_of (choice_by_masks (holding a.polled a.ie a.ip a.low a.high seen)))

@@ -5,6 +5,5 @@ use Rattle.interrupts.proofs.edge_taken.Goals as goal
 
 pub returns : goal.returns
 returns c =
-    let b = c in
-    let a = b.args in
-    simp (c.picked.ensures, and_one a.tcon a.it, clear_shl a.ie a.tcon b.requires.ie_bound (omega arith))
+    let a = c.args in
+    simp (c.picked.ensures, and_one a.tcon a.it, clear_shl a.ie a.tcon c.requires.ie_bound (omega arith))

@@ -7,6 +7,5 @@ use Rattle.interrupts.proofs.external.Goals as goal
 pub returns : goal.returns
 unfolding external
 returns c =
-    let b = c in
-    let a = b.args in
-    simp (c.picked.ensures, c.picked-by_level.ensures, c.picked-by_edge.ensures, and_one a.tcon a.it, or_shl a.tcon a.ie b.requires.ie_bound, clear_shl a.ie a.tcon b.requires.ie_bound (omega arith))
+    let a = c.args in
+    simp (c.picked.ensures, c.picked-by_level.ensures, c.picked-by_edge.ensures, and_one a.tcon a.it, or_shl a.tcon a.ie c.requires.ie_bound, clear_shl a.ie a.tcon c.requires.ie_bound (omega arith))

@@ -10,5 +10,4 @@ returns-then-powered_down c = rw (sym c.powered_down.ensures ∙ c.if-powered_do
 pub returns : goal.returns
 unfolding offered
 returns c =
-    let p = c in
-    rw (sym p.powered_down.ensures ∙ p.if-powered_down.false) (c.choice.ensures p.args.i.seen)
+    rw (sym c.powered_down.ensures ∙ c.if-powered_down.false) (c.choice.ensures c.args.i.seen)

@@ -3,9 +3,9 @@ use mathlib.Core.Path.{◌≡◌, refl, sym, ◌∙◌}
 use mathlib.Core.Logic.{◌⊎◌, inl, inr}
 use Prim.Native.Nat.{ℕ}
 use native.Mathlib.Omega.{arith}
-use Rattle.record.proofs.Accepted.{ranges-of}
-use Rattle.jump.proofs.Idles.{idle-on, idle_laps, idle-rounds}
-use Rattle.jump.proofs.Reached.{rest-sums, rest-fits, rest-counts, rest-few, reached-end, reached-sum, reached-count}
+use Rattle.record.proofs.Accepted.{ranges_of}
+use Rattle.jump.proofs.Idles.{idle_on, idle_laps, idle_rounds_lem}
+use Rattle.jump.proofs.Reached.{rest_sums, rest_fits, rest_counts, rest_few, reached_end, reached_sum, reached_count}
 use Rattle.jump.proofs.advance.Goals as goal
 
 -- no cycle is left
@@ -13,7 +13,7 @@ pub returns-then-gone-eq0 : goal.returns-then-gone-eq0
 returns-then-gone-eq0 c =
     let g = c.rounds_to_idle-gone.ensures.0 in
     let none = c.if-gone-eq0.true in
-    (reached-count g (omega arith), reached-sum g (omega arith), reached-end g (omega arith))
+    (reached_count g (omega arith), reached_sum g (omega arith), reached_end g (omega arith))
 
 -- the rest at once
 idles_on : {P : Type 0} {left : ℕ} → (left ≡ 0) ⊎ P → (left ≡ 0 → ⊥) → P
@@ -21,35 +21,32 @@ idles_on (inl z) some = absurd (some z)
 idles_on (inr p) some = p
 
 pub idle-idled-requires : goal.idle-idled-requires
-idle-idled-requires c = (ranges-of _ c.rounds_to_idle-gone.ensures.0.ready.good).serial.half
+idle-idled-requires c = (ranges_of _ c.rounds_to_idle-gone.ensures.0.ready.good).serial.half
 
 pub added-requires : goal.added-requires
 added-requires c =
-    let i = c in
-    let r = i.rounds_to_idle-gone in
+    let r = c.rounds_to_idle-gone in
     let g = r.ensures.0 in
-    let laps = idle_laps _ r.result.run.device g.ready refl (idles_on r.ensures.1 i.if-gone-eq0.false) r.result.left in
-    rest-fits g (laps ∙ sym c.idle_totals.ensures) i.requires.1
+    let laps = idle_laps _ r.result.run.device g.ready refl (idles_on r.ensures.1 c.if-gone-eq0.false) r.result.left in
+    rest_fits g (laps ∙ sym c.idle_totals.ensures) c.requires.1
 
 pub overflow_add-result : goal.overflow_add-result
 overflow_add-result c =
-    let q = c in
-    let r = q.rounds_to_idle-gone in
+    let r = c.rounds_to_idle-gone in
     let g = r.ensures.0 in
-    let counts = idle-rounds _ r.result.run.device g.ready refl (idles_on r.ensures.1 q.if-gone-eq0.false) r.result.left in
-    let few = rest-few g (counts ∙ sym c.idle-idled.ensures.0) in
-    omega (arith, few, q.requires.1)
+    let counts = idle_rounds_lem _ r.result.run.device g.ready refl (idles_on r.ensures.1 c.if-gone-eq0.false) r.result.left in
+    let few = rest_few g (counts ∙ sym c.idle-idled.ensures.0) in
+    omega (arith, few, c.requires.1)
 
 pub returns : goal.returns
 returns c =
-    let i = c in
-    let r = i.rounds_to_idle-gone in
+    let r = c.rounds_to_idle-gone in
     let g = r.ensures.0 in
     let d = r.result.run.device in
-    let p = idles_on r.ensures.1 i.if-gone-eq0.false in
+    let p = idles_on r.ensures.1 c.if-gone-eq0.false in
     let n = r.result.left in
     let idled = c.idle-idled.ensures in (
-      rest-counts g (idle-rounds _ d g.ready refl p n ∙ sym idled.0),
-      c.added.ensures ∙ rest-sums g (idle_laps _ d g.ready refl p n ∙ sym c.idle_totals.ensures),
-      idle-on _ d g.ready refl p n idled.1 g.ends,
+      rest_counts g (idle_rounds_lem _ d g.ready refl p n ∙ sym idled.0),
+      c.added.ensures ∙ rest_sums g (idle_laps _ d g.ready refl p n ∙ sym c.idle_totals.ensures),
+      idle_on _ d g.ready refl p n idled.1 g.ends,
     )

@@ -2,8 +2,8 @@
 use mathlib.Core.Path.{sym, ◌∙◌}
 use mathlib.Core.Logic.{inl, inr}
 use native.Mathlib.Omega.{arith}
-use Rattle.jump.proofs.Rounds.{round-used}
-use Rattle.jump.proofs.Reached.{reached_first, reached-low, reached-on}
+use Rattle.jump.proofs.Rounds.{round_used}
+use Rattle.jump.proofs.Reached.{reached_first, reached_low, reached_on}
 use Rattle.jump.proofs.rounds_to_idle.Goals as goal
 
 pub loop-left-init : goal.loop-left-init
@@ -15,33 +15,27 @@ idles-requires c = c.ahead-ahead.ensures.0
 -- where Timer 1's reload is all that happens
 pub returns-then-idles : goal.returns-then-idles
 returns-then-idles c =
-    let q = c in
-    (q.loop-left.invariant, inr (sym q.idles.ensures ∙ c.if-idles.true))
+    (c.loop-left.invariant, inr (sym c.idles.ensures ∙ c.if-idles.true))
 
 -- a round
 pub one_round-r-requires : goal.one_round-r-requires
 one_round-r-requires c =
-    let h = c in
-    let l = h in
-    let i = l.loop-left.invariant in
-    (i.ready, omega arith, omega (arith, i.within, l.requires.1), h.ahead-ahead.ensures.1, reached-low i l.requires.1)
+    let i = c.loop-left.invariant in
+    (i.ready, omega arith, omega (arith, i.within, c.requires.1), c.ahead-ahead.ensures.1, reached_low i c.requires.1)
 
 pub overflow_sub-left : goal.overflow_sub-left
-overflow_sub-left c = (round-used _ _ _ c.one_round-r.ensures (omega arith)).1
+overflow_sub-left c = (round_used _ _ _ c.one_round-r.ensures (omega arith)).1
 
 pub overflow_add-rounds : goal.overflow_add-rounds
 overflow_add-rounds c =
-    let l = c in
-    omega (arith, l.loop-left.invariant.within, l.requires.1)
+    omega (arith, c.loop-left.invariant.within, c.requires.1)
 
 pub loop-left-smaller : goal.loop-left-smaller
-loop-left-smaller c = omega (arith, round-used _ _ _ c.one_round-r.ensures (omega arith))
+loop-left-smaller c = omega (arith, round_used _ _ _ c.one_round-r.ensures (omega arith))
 
 pub loop-left-preserved : goal.loop-left-preserved
 loop-left-preserved c =
-    let r = c in
-    let l = r in
-    reached-on l.loop-left.invariant l.requires.1 (omega arith) r.one_round-r.ensures
+    reached_on c.loop-left.invariant c.requires.1 (omega arith) c.one_round-r.ensures
 
 -- the end
 pub returns : goal.returns

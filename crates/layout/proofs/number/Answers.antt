@@ -4,27 +4,24 @@ use mathlib.Core.Path.{◌≡◌, ap, ◌∙◌}
 use native.Mathlib.Omega.{arith}
 use lib.ListN.{get_or, drop}
 use Rattle.machine.specs.Checkpoint.{number_of}
-use Rattle.layout.proofs.Bytes.{chunk, sum-none, fits, inside, sum-on}
+use Rattle.layout.proofs.Bytes.{chunk, sum_none, fits, inside, sum_on}
 use Rattle.layout.proofs.number.Goals as goal
 
 pub loop-i-init : goal.loop-i-init
-loop-i-init c = sum-none _ _ _ c.requires.0
+loop-i-init c = sum_none _ _ _ c.requires.0
 
 pub overflow_mul-n : goal.overflow_mul-n
 overflow_mul-n c =
-    let s = c in
-    omega (arith, fits _ _ _ s.requires.0 _ _ c.loop-i.invariant c.loop-i-test.true s.requires.1 0 (omega arith))
+    omega (arith, fits _ _ _ c.requires.0 _ _ c.loop-i.invariant c.loop-i-test.true c.requires.1 0 (omega arith))
 
 pub overflow_add-n : goal.overflow_add-n
 overflow_add-n c =
-    let s = c in
-    let l = s.requires.0 in
-    omega (arith, inside _ _ _ s.requires.0 _ _ c.loop-i.invariant c.loop-i-test.true)
+    let l = c.requires.0 in
+    omega (arith, inside _ _ _ c.requires.0 _ _ c.loop-i.invariant c.loop-i-test.true)
 
 pub bounds-file-at : goal.bounds-file-at
 bounds-file-at c =
-    let t = c in
-    inside _ _ _ t.requires.0 _ _ t.loop-i.invariant t.loop-i-test.true
+    inside _ _ _ c.requires.0 _ _ c.loop-i.invariant c.loop-i-test.true
 
 -- the element is a byte
 byte : (c : goal.After-shared_slice_known-1)
@@ -33,9 +30,7 @@ byte c = omega (arith, c.shared_slice_known-1.given (c.args.at + (c.loop-i.i - 1
 
 pub overflow_add-n-in-loop-i : goal.overflow_add-n-in-loop-i
 overflow_add-n-in-loop-i c =
-    let t = c in
-    let s = t in
-    omega (arith, fits _ _ _ s.requires.0 _ _ t.loop-i.invariant t.loop-i-test.true s.requires.1 _ (byte c))
+    omega (arith, fits _ _ _ c.requires.0 _ _ c.loop-i.invariant c.loop-i-test.true c.requires.1 _ (byte c))
 
 pub overflow_cast-n : goal.overflow_cast-n
 overflow_cast-n c =
@@ -43,9 +38,7 @@ overflow_cast-n c =
 
 pub loop-i-preserved : goal.loop-i-preserved
 loop-i-preserved c =
-    let t = c in
-    let s = t in
-    sum-on _ _ _ s.requires.0 _ _ t.loop-i.invariant t.loop-i-test.true (byte c)
+    sum_on _ _ _ c.requires.0 _ _ c.loop-i.invariant c.loop-i-test.true (byte c)
 
 pub returns : goal.returns
 returns c =

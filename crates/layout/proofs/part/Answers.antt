@@ -26,46 +26,34 @@ overflow_add-second c = omega (arith, c.count-registers.ensures, count_most c.ar
 
 pub register_part-requires : goal.register_part-requires
 register_part-requires c =
-    let a = c in
-    omega (arith, a.count-registers.ensures, count_most a.args.kind, c.if-n-second.true)
+    omega (arith, c.count-registers.ensures, count_most c.args.kind, c.if-n-second.true)
 
 pub returns-then-n-second : goal.returns-then-n-second
 unfolding part_at
 returns-then-n-second c =
-    let t = c in
-    let a = t in
-    c.register_part.ensures ∙ simp (ne_eqb _ _ t.if-n-eq0.false, lt-ltb _ _ (rw a.count-registers.ensures at t.if-n-second.true))
+    c.register_part.ensures ∙ simp (ne_eqb _ _ c.if-n-eq0.false, lt-ltb _ _ (rw c.count-registers.ensures at c.if-n-second.true))
 
 pub overflow_add-third : goal.overflow_add-third
 overflow_add-third c =
-    let a = c in
-    omega (arith, a.count-registers.ensures, count_most a.args.kind)
+    omega (arith, c.count-registers.ensures, count_most c.args.kind)
 
 pub number_part-requires : goal.number_part-requires
 number_part-requires c =
-    let a = c in
-    omega (arith, a.count-registers.ensures, count_most a.args.kind, c.if-n-third.true)
+    omega (arith, c.count-registers.ensures, count_most c.args.kind, c.if-n-third.true)
 
 pub returns-then-n-third : goal.returns-then-n-third
 unfolding part_at
 returns-then-n-third c =
-    let t = c in
-    let u = t in
-    let a = u in
     c.number_part.ensures
-    ∙ simp (ne_eqb _ _ u.if-n-eq0.false, a.count-registers.ensures, le-ltb _ _ (rw a.count-registers.ensures at u.if-n-second.false), lt-ltb _ _ (rw a.count-registers.ensures at t.if-n-third.true))
+    ∙ simp (ne_eqb _ _ c.if-n-eq0.false, c.count-registers.ensures, le-ltb _ _ (rw c.count-registers.ensures at c.if-n-second.false), lt-ltb _ _ (rw c.count-registers.ensures at c.if-n-third.true))
 
 pub time_part-requires : goal.time_part-requires
 time_part-requires c =
-    let a = c in
-    let l = a.requires in
-    omega (arith, a.count-registers.ensures, count_most a.args.kind, c.if-n-third.false)
+    let l = c.requires in
+    omega (arith, c.count-registers.ensures, count_most c.args.kind, c.if-n-third.false)
 
 pub returns : goal.returns
 unfolding part_at
 returns c =
-    let t = c in
-    let u = t in
-    let a = u in
     c.time_part.ensures
-    ∙ simp (ne_eqb _ _ u.if-n-eq0.false, a.count-registers.ensures, le-ltb _ _ (rw a.count-registers.ensures at u.if-n-second.false), le-ltb _ _ (rw a.count-registers.ensures at t.if-n-third.false))
+    ∙ simp (ne_eqb _ _ c.if-n-eq0.false, c.count-registers.ensures, le-ltb _ _ (rw c.count-registers.ensures at c.if-n-second.false), le-ltb _ _ (rw c.count-registers.ensures at c.if-n-third.false))

@@ -4,9 +4,9 @@ use mathlib.Core.Path.{sym, ap, ◌∙◌}
 use Prim.Native.Nat.{ℕ}
 use native.Mathlib.Omega.{arith}
 use Rattle.machine.specs.Calls.{wakes, first_cycle}
-use Rattle.jump.proofs.Rounds.{round-used, round-ready}
+use Rattle.jump.proofs.Rounds.{round_used, round_ready}
 use Rattle.looks.proofs.Looks.{hears_wakes, on_none}
-use Rattle.looks.proofs.Rounds.{quiet-look, idle-look, look-here, look-on}
+use Rattle.looks.proofs.Rounds.{quiet_look, idle_look, look_here, look_on}
 use Rattle.totals.proofs.Sums.{none_low}
 use Rattle.looks.proofs.first_offer.Goals as goal
 
@@ -15,64 +15,51 @@ returns-then-offers c = rw (sym c.offers.ensures ∙ c.if-offers.true)
 
 pub loop-k-init : goal.loop-k-init
 loop-k-init c =
-    let o = c in
-    let a = o.args in
-    let none = sym o.offers.ensures ∙ c.if-offers.false in
-    (o.requires.0, omega arith, none, rw none (ap (λ (m : ℕ). first_cycle wakes 0 m a.pins a.d) (omega arith)))
+    let a = c.args in
+    let none = sym c.offers.ensures ∙ c.if-offers.false in
+    (c.requires.0, omega arith, none, rw none (ap (λ (m : ℕ). first_cycle wakes 0 m a.pins a.d) (omega arith)))
 
 pub idles-requires : goal.idles-requires
 idles-requires c = c.ahead-ahead.ensures.0
 
 pub returns-then-idles : goal.returns-then-idles
 returns-then-idles c =
-    let q = c in
-    let w = q in
-    let i = w.loop-k.invariant in
-    idle-look hears_wakes _ w.loop-k.at i.0 i.2 q.idles.ensures c.if-idles.true w.loop-k.k _ i.3
+    let i = c.loop-k.invariant in
+    idle_look hears_wakes _ c.loop-k.at i.0 i.2 c.idles.ensures c.if-idles.true c.loop-k.k _ i.3
 
 pub overflow_sub-left : goal.overflow_sub-left
 overflow_sub-left c = omega arith
 
 pub returns-then-left-ahead : goal.returns-then-left-ahead
 returns-then-left-ahead c =
-    let h = c in
-    let w = h in
-    let i = w.loop-k.invariant in
-    quiet-look hears_wakes _ _ w.loop-k.at i.0 i.2 h.ahead-ahead.ensures.1 c.if-left-ahead.true w.loop-k.k i.3
+    let i = c.loop-k.invariant in
+    quiet_look hears_wakes _ _ c.loop-k.at i.0 i.2 c.ahead-ahead.ensures.1 c.if-left-ahead.true c.loop-k.k i.3
 
 pub one_round-r-requires : goal.one_round-r-requires
 one_round-r-requires c =
-    let h = c in
-    (h.loop-k.invariant.0, omega arith, omega arith, h.ahead-ahead.ensures.1, none_low c.none.ensures)
+    (c.loop-k.invariant.0, omega arith, omega arith, c.ahead-ahead.ensures.1, none_low c.none.ensures)
 
 pub overflow_add-k : goal.overflow_add-k
 overflow_add-k c =
-    let o = c in
-    let l = o in
-    omega (arith, l.requires.1, round-used _ _ _ o.one_round-r.ensures (omega arith))
+    omega (arith, c.requires.1, round_used _ _ _ c.one_round-r.ensures (omega arith))
 
 pub returns-then-offers-2 : goal.returns-then-offers-2
 returns-then-offers-2 c =
-    let o = c in
-    let t = o in
-    let i = t.loop-k.invariant in
-    look-here hears_wakes _ _ _ _ t.loop-k-test.true o.one_round-r.ensures i.0.good i.2 i.3 (sym c.offers-in-loop-k.ensures ∙ c.if-offers-2.true)
+    let i = c.loop-k.invariant in
+    look_here hears_wakes _ _ _ _ c.loop-k-test.true c.one_round-r.ensures i.0.good i.2 i.3 (sym c.offers-in-loop-k.ensures ∙ c.if-offers-2.true)
 
 pub loop-k-smaller : goal.loop-k-smaller
 loop-k-smaller c =
-    let o = c in
-    omega (arith, round-used _ _ _ o.one_round-r.ensures (omega arith))
+    omega (arith, round_used _ _ _ c.one_round-r.ensures (omega arith))
 
 pub loop-k-preserved : goal.loop-k-preserved
 loop-k-preserved c =
-    let o = c in
-    let t = o in
-    let i = t.loop-k.invariant in
+    let i = c.loop-k.invariant in
     let none = sym c.offers-in-loop-k.ensures ∙ c.if-offers-2.false in (
-      round-ready _ _ _ o.one_round-r.ensures (omega arith) i.0,
-      omega (arith, round-used _ _ _ o.one_round-r.ensures (omega arith)),
+      round_ready _ _ _ c.one_round-r.ensures (omega arith) i.0,
+      omega (arith, round_used _ _ _ c.one_round-r.ensures (omega arith)),
       none,
-      look-on hears_wakes _ _ _ _ t.loop-k-test.true o.one_round-r.ensures i.0.good i.2 i.3 none,
+      look_on hears_wakes _ _ _ _ c.loop-k-test.true c.one_round-r.ensures i.0.good i.2 i.3 none,
     )
 
 pub returns : goal.returns

@@ -16,17 +16,13 @@ settled-requires c = sym c.powered_down.ensures ∙ c.if-powered_down.false
 pub returns-then-settled : goal.returns-then-settled
 unfolding room_at awake_room
 returns-then-settled c =
-    let units = c in
-    let settled = units in
-    let up = settled in
-    let awake = sym up.powered_down.ensures ∙ up.if-powered_down.false in
-    let is = sym settled.settled.ensures ∙ settled.if-settled.true in
-    (sym is, simp (awake, is, c.least.ensures, c.room2.ensures, units.room_timers.ensures))
+    let awake = sym c.powered_down.ensures ∙ c.if-powered_down.false in
+    let is = sym c.settled.ensures ∙ c.if-settled.true in
+    (sym is, simp (awake, is, c.least.ensures, c.room2.ensures, c.room_timers.ensures))
 
 pub returns-else-settled : goal.returns-else-settled
 unfolding room_at awake_room
 returns-else-settled c =
-    let up = c in
-    let awake = sym up.powered_down.ensures ∙ up.if-powered_down.false in
+    let awake = sym c.powered_down.ensures ∙ c.if-powered_down.false in
     let not = sym c.settled.ensures ∙ c.if-settled.false in
     (sym not, simp (awake, not))

@@ -14,9 +14,7 @@ returns-then-not-settled_serial c =
 pub returns : goal.returns
 unfolding settled_at others_settled
 returns c =
-    let t = c in
-    let n = t in
-    let s = n.settled_serial in
-    let rests = simp bits at (sym s.ensures ∙ n.if-not-settled_serial.false) in
-    let awake = n.requires in
-    simp (bits, rests, awake, c.settled_interrupts.ensures, t.settled_timers.ensures, t.same_levels.ensures, t.seen_of-flags.ensures)
+    let s = c.settled_serial in
+    let rests = simp bits at (sym s.ensures ∙ c.if-not-settled_serial.false) in
+    let awake = c.requires in
+    simp (bits, rests, awake, c.settled_interrupts.ensures, c.settled_timers.ensures, c.same_levels.ensures, c.seen_of-flags.ensures)

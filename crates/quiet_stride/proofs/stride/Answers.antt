@@ -4,7 +4,7 @@ use Rattle.std.proofs.Common.{◌≡◌, ℕ, ◌≤◌, Bool, false, sym, ◌�
 use Rattle.machine.specs.declared.Device.{Device}
 use Rattle.machine.specs.Power.{powered_down}
 use Rattle.laws.proofs.Bits.{bits}
-use Rattle.strides.proofs.Strides.{room-timers, room-timer2}
+use Rattle.strides.proofs.Strides.{room_timers_lem, room_timer2}
 use Rattle.strides.specs.Stride.{awake_room, room_at, awake_stride, stride_at}
 use Rattle.quiet_stride.proofs.stride.Goals as goal
 
@@ -19,22 +19,16 @@ returns-then-powered_down c = rw (sym c.powered_down.ensures ∙ c.if-powered_do
 
 pub stride_timers-e-requires : goal.stride_timers-e-requires
 stride_timers-e-requires c =
-    let u = c in
-    let p = u in
-    let a = p.args in
-    room-timers a.m a.l a.d (units a.m a.l a.d p.powered_down.ensures u.if-powered_down.false p.requires)
+    let a = c.args in
+    room_timers_lem a.m a.l a.d (units a.m a.l a.d c.powered_down.ensures c.if-powered_down.false c.requires)
 
 pub stride2-e-requires : goal.stride2-e-requires
 stride2-e-requires c =
-    let u = c in
-    let p = u in
-    let a = p.args in
-    room-timer2 a.m a.l a.d (units a.m a.l a.d p.powered_down.ensures u.if-powered_down.false p.requires)
+    let a = c.args in
+    room_timer2 a.m a.l a.d (units a.m a.l a.d c.powered_down.ensures c.if-powered_down.false c.requires)
 
 pub returns : goal.returns
 unfolding stride_at awake_stride
 returns c =
-    let s = c in
-    let u = s in
-    let up = sym u.powered_down.ensures ∙ u.if-powered_down.false in
-    simp (up, bits, c.wrapping_add_u64.ensures.value, c.stride_serial-e.ensures, s.stride2-e.ensures, s.stride_timers-e.ensures)
+    let up = sym c.powered_down.ensures ∙ c.if-powered_down.false in
+    simp (up, bits, c.wrapping_add_u64.ensures.value, c.stride_serial-e.ensures, c.stride2-e.ensures, c.stride_timers-e.ensures)

@@ -7,27 +7,23 @@ use Rattle.quiet_stride.proofs.stride2.Goals as goal
 
 pub overflow_cast-m : goal.overflow_cast-m
 overflow_cast-m c =
-    let s = c in
-    let h = each_fits s.args.t s.moves2.ensures s.if-moves2.true c.picked16-each.ensures c.baud_rate.ensures s.requires in
+    let h = each_fits c.args.t c.moves2.ensures c.if-moves2.true c.picked16-each.ensures c.baud_rate.ensures c.requires in
     omega arith
 
 pub overflow_mul-m : goal.overflow_mul-m
 overflow_mul-m c =
-    let s = c in
-    let h = each_fits s.args.t s.moves2.ensures s.if-moves2.true c.picked16-each.ensures c.baud_rate.ensures s.requires in
+    let h = each_fits c.args.t c.moves2.ensures c.if-moves2.true c.picked16-each.ensures c.baud_rate.ensures c.requires in
     omega arith
 
 pub by16-n-requires : goal.by16-n-requires
 by16-n-requires c =
-    let s = c in
-    (each_fits s.args.t s.moves2.ensures s.if-moves2.true c.picked16-each.ensures c.baud_rate.ensures s.requires).0
+    (each_fits c.args.t c.moves2.ensures c.if-moves2.true c.picked16-each.ensures c.baud_rate.ensures c.requires).0
 
 pub returns-then-moves2 : goal.returns-then-moves2
 unfolding stride2
 returns-then-moves2 c =
-    let s = c in
-    let a = s.args in
-    simp (c.by16-n.ensures, each_counts a.m a.t s.moves2.ensures s.if-moves2.true c.picked16-each.ensures c.baud_rate.ensures)
+    let a = c.args in
+    simp (c.by16-n.ensures, each_counts a.m a.t c.moves2.ensures c.if-moves2.true c.picked16-each.ensures c.baud_rate.ensures)
 
 pub returns-else-moves2 : goal.returns-else-moves2
 unfolding stride2

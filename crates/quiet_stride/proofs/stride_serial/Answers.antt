@@ -14,7 +14,5 @@ overflow_add-counter c =
 pub returns : goal.returns
 unfolding stride_serial sampled
 returns c =
-    let p = c in
-    let k = p in
-    let a = k.args in
-    simp (bits, p.picked-sample.ensures, p.mode_of.ensures, k.ticks2.ensures, ticks_laps a.m a.smod a.s.scon a.s.send.counter)
+    let a = c.args in
+    simp (bits, c.picked-sample.ensures, c.mode_of.ensures, c.ticks2.ensures, ticks_laps a.m a.smod a.s.scon a.s.send.counter)

@@ -9,9 +9,8 @@ use Rattle.receiver.proofs.frame_done.Goals as goal
 pub returns-then-scon-b : goal.returns-then-scon-b
 unfolding frame_done
 returns-then-scon-b c =
-    let b = c in
-    let a = b.args in
-    simp (c.with_received.ensures, put_mask 8 RB8 a.b a.s.scon (omega arith) (omega arith) (omega arith), or_bit (put_bit RB8 a.b a.s.scon) RI, simp low1 at b.if-scon-b.true)
+    let a = c.args in
+    simp (c.with_received.ensures, put_mask 8 RB8 a.b a.s.scon (omega arith) (omega arith) (omega arith), or_bit (put_bit RB8 a.b a.s.scon) RI, simp low1 at c.if-scon-b.true)
 
 pub returns-else-scon-b : goal.returns-else-scon-b
 unfolding frame_done

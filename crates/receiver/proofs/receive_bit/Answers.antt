@@ -18,21 +18,17 @@ returns-then-p-eq1 c =
 pub returns-then-p-le9 : goal.returns-then-p-le9
 unfolding receive_bit
 returns-then-p-le9 c =
-    let b = c in
-    simp (c.put_bit-value.ensures, ne_eqb _ _ b.if-p-eq1.false, le-leb _ _ b.if-p-le9.true)
+    simp (c.put_bit-value.ensures, ne_eqb _ _ c.if-p-eq1.false, le-leb _ _ c.if-p-le9.true)
 
 pub returns-then-p-eq10 : goal.returns-then-p-eq10
 unfolding receive_bit
 returns-then-p-eq10 c =
-    let f = c in
-    let b = f in
-    let a = b.args in
-    simp (c.picked-position-then-p-eq10.ensures, c.mode_of.ensures, f.frame_done-d.ensures)
+    let a = c.args in
+    simp (c.picked-position-then-p-eq10.ensures, c.mode_of.ensures, c.frame_done-d.ensures)
     (done_rests a.b (eqb (serial_mode a.s.scon) 1) a.s
-    ∙ simp (ne_eqb _ _ b.if-p-eq1.false, lt-leb _ _ b.if-p-le9.false, eq-eqb _ _ b.if-p-eq10.true))
+    ∙ simp (ne_eqb _ _ c.if-p-eq1.false, lt-leb _ _ c.if-p-le9.false, eq-eqb _ _ c.if-p-eq10.true))
 
 pub returns : goal.returns
 unfolding receive_bit
 returns c =
-    let b = c in
-    simp (ne_eqb _ _ b.if-p-eq1.false, lt-leb _ _ b.if-p-le9.false, ne_eqb _ _ b.if-p-eq10.false)
+    simp (ne_eqb _ _ c.if-p-eq1.false, lt-leb _ _ c.if-p-le9.false, ne_eqb _ _ c.if-p-eq10.false)

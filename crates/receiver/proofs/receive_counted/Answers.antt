@@ -8,7 +8,6 @@ use Rattle.receiver.proofs.receive_counted.Goals as goal
 pub returns : goal.returns
 unfolding receive_counted
 returns c =
-    let b = c in
-    let n = b.args.r.counter in
+    let n = c.args.r.counter in
     let e : bit_and c.wrapping_add_u8-counter.result 15 ≡ (n + 1) % 16 = low4 c.wrapping_add_u8-counter.result ∙ omega (arith, c.wrapping_add_u8-counter.ensures.value) in
     simp (c.picked-position.ensures, c.receive_rolled-rolled.ensures, e)

@@ -29,17 +29,15 @@ loop-left-smaller c = omega arith
 
 pub loop-left-preserved : goal.loop-left-preserved
 loop-left-preserved c =
-    let b = c in
-    let a = b.args in
+    let a = c.args in
     let m = serial_mode a.s.scon in (
-      ap (receive_ticks (b.loop-left.left - 1) a.rxd) c.receive_tick-t.ensures ∙ less b.loop-left.left a.rxd b.loop-left.t c.loop-left-test.true
-          ∙ b.loop-left.invariant.0,
-      subst (Kept m) (sym c.receive_tick-t.ensures) (receive_tick_kept m a.rxd b.loop-left.t b.requires.scon_nonzero b.requires.rxd_bound b.loop-left.invariant.1),
+      ap (receive_ticks (c.loop-left.left - 1) a.rxd) c.receive_tick-t.ensures ∙ less c.loop-left.left a.rxd c.loop-left.t c.loop-left-test.true
+          ∙ c.loop-left.invariant.0,
+      subst (Kept m) (sym c.receive_tick-t.ensures) (receive_tick_kept m a.rxd c.loop-left.t c.requires.scon_nonzero c.requires.rxd_bound c.loop-left.invariant.1),
     )
 
 pub returns : goal.returns
 unfolding receive_ticks
 returns c =
-    let b = c in
-    let e : 0 ≡ b.loop-left.left = omega arith in
-    ap (λ (k : ℕ). receive_ticks k b.args.rxd b.loop-left.t) e ∙ b.loop-left.invariant.0
+    let e : 0 ≡ c.loop-left.left = omega arith in
+    ap (λ (k : ℕ). receive_ticks k c.args.rxd c.loop-left.t) e ∙ c.loop-left.invariant.0

@@ -17,11 +17,9 @@ returns-then-p-eq1 c = simp (ne_eqb _ _ c.if-p-eq0.false, eq-eqb _ _ c.if-p-eq1.
 pub returns-then-p-le9 : goal.returns-then-p-le9
 unfolding receive_shift
 returns-then-p-le9 c =
-    let b = c in
-    simp (c.put_bit-value.ensures, ne_eqb _ _ b.if-p-eq0.false, ne_eqb _ _ b.if-p-eq1.false, le-leb _ _ b.if-p-le9.true)
+    simp (c.put_bit-value.ensures, ne_eqb _ _ c.if-p-eq0.false, ne_eqb _ _ c.if-p-eq1.false, le-leb _ _ c.if-p-le9.true)
 
 pub returns : goal.returns
 unfolding receive_shift
 returns c =
-    let b = c in
-    simp (c.with_received-d.ensures, or_bit b.args.s.scon RI, ne_eqb _ _ b.if-p-eq0.false, ne_eqb _ _ b.if-p-eq1.false, lt-leb _ _ b.if-p-le9.false)
+    simp (c.with_received-d.ensures, or_bit c.args.s.scon RI, ne_eqb _ _ c.if-p-eq0.false, ne_eqb _ _ c.if-p-eq1.false, lt-leb _ _ c.if-p-le9.false)

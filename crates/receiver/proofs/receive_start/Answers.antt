@@ -6,8 +6,7 @@ use Rattle.receiver.proofs.receive_start.Goals as goal
 pub returns-then-start_found : goal.returns-then-start_found
 unfolding receive_start
 returns-then-start_found c =
-    let b = c in
-    simp (sym b.start_found.ensures ∙ b.if-start_found.true)
+    simp (sym c.start_found.ensures ∙ c.if-start_found.true)
 
 pub returns : goal.returns
 unfolding receive_start

@@ -7,11 +7,9 @@ use Rattle.receiver.proofs.receive_ticks.Goals as goal
 
 pub returns-then-s-found : goal.returns-then-s-found
 returns-then-s-found c =
-    let b = c in
-    let w = b in
-    let a = w.args in
+    let a = c.args in
     let p = a.s.receive.position in
-    let rests = eqb-true p 0 (and_left (eqb p 0) (not w.start_found-found.result) b.if-s-found.true) in
-    let none = not-true w.start_found-found.result (and_right (eqb p 0) (not w.start_found-found.result) b.if-s-found.true) in
+    let rests = eqb-true p 0 (and_left (eqb p 0) (not c.start_found-found.result) c.if-s-found.true) in
+    let none = not-true c.start_found-found.result (and_right (eqb p 0) (not c.start_found-found.result) c.if-s-found.true) in
     ap (λ (l : ℕ). sampled l a.s) c.picked-sample.ensures
-    ∙ sym (rest_receive_ticks a.n a.rxd a.s rests (sym w.start_found-found.ensures ∙ none))
+    ∙ sym (rest_receive_ticks a.n a.rxd a.s rests (sym c.start_found-found.ensures ∙ none))

@@ -8,8 +8,7 @@ use Rattle.receiver.proofs.receive_work.Goals as goal
 pub returns-then-n-eq7 : goal.returns-then-n-eq7
 unfolding receive_work
 returns-then-n-eq7 c =
-    let b = c in
-    simp (← b.receive_counted-counted.ensures, eq-eqb _ _ b.if-n-eq7.true)
+    simp (← c.receive_counted-counted.ensures, eq-eqb _ _ c.if-n-eq7.true)
 
 pub votes_added-votes-requires : goal.votes_added-votes-requires
 unfolding receive_counted
@@ -19,8 +18,7 @@ votes_added-votes-requires c =
 pub returns-then-n-eq8 : goal.returns-then-n-eq8
 unfolding receive_work
 returns-then-n-eq8 c =
-    let b = c in
-    simp (c.votes_added-votes.ensures, ← b.receive_counted-counted.ensures, ne_eqb _ _ b.if-n-eq7.false, eq-eqb _ _ b.if-n-eq8.true)
+    simp (c.votes_added-votes.ensures, ← c.receive_counted-counted.ensures, ne_eqb _ _ c.if-n-eq7.false, eq-eqb _ _ c.if-n-eq8.true)
 
 pub bit_of-requires : goal.bit_of-requires
 unfolding receive_counted
@@ -30,16 +28,14 @@ bit_of-requires c =
 pub receive_bit-requires : goal.receive_bit-requires
 unfolding receive_counted
 receive_bit-requires c =
-    let b = c in
-    let a = b.args in
-    let n = ap (λ (r : Receiver). r.counter) b.receive_counted-counted.ensures in
-    let e = ap (λ (r : Receiver). r.position) b.receive_counted-counted.ensures ∙ counted_at9 a.s.scon a.s.receive (sym n ∙ c.if-n-eq9.true) in record { b_bound = omega (arith, c.bit_of.ensures, bit_of_below b.receive_counted-counted.result.votes a.rxd); le_position = omega arith }
+    let a = c.args in
+    let n = ap (λ (r : Receiver). r.counter) c.receive_counted-counted.ensures in
+    let e = ap (λ (r : Receiver). r.position) c.receive_counted-counted.ensures ∙ counted_at9 a.s.scon a.s.receive (sym n ∙ c.if-n-eq9.true) in record { b_bound = omega (arith, c.bit_of.ensures, bit_of_below c.receive_counted-counted.result.votes a.rxd); le_position = omega arith }
 
 pub returns-then-n-eq9 : goal.returns-then-n-eq9
 unfolding receive_work
 returns-then-n-eq9 c =
-    let b = c in
-    simp (c.receive_bit.ensures, c.bit_of.ensures, ← b.receive_counted-counted.ensures, ne_eqb _ _ b.if-n-eq7.false, ne_eqb _ _ b.if-n-eq8.false, eq-eqb _ _ b.if-n-eq9.true)
+    simp (c.receive_bit.ensures, c.bit_of.ensures, ← c.receive_counted-counted.ensures, ne_eqb _ _ c.if-n-eq7.false, ne_eqb _ _ c.if-n-eq8.false, eq-eqb _ _ c.if-n-eq9.true)
 
 pub returns : goal.returns
 unfolding receive_work

@@ -13,10 +13,7 @@ use Rattle.record.proofs.hidden_ok.Goals as goal
 pub returns : goal.returns
 unfolding hidden_fields
 returns c =
-    let p = c in
-    let m = p in
-    let s = m in
-    let received : s.args.d.serial.received ≤ 255 = omega (arith, s.well_formed) in
-    let cycle : s.args.d.cycle ≤ 2 ^ 64 - 1 = omega (arith, s.well_formed) in
-    simp (p.picked-due_most.ensures, m.picked-last.ensures, m.mode_of.ensures, le-leb _ _ received, le-leb _ _ cycle)
-    (joined true (map (λ (h : Hidden). leb h.value h.most) (without 9 (without 17 (hidden_fields s.args.d)))))
+    let received : c.args.d.serial.received ≤ 255 = omega (arith, c.well_formed) in
+    let cycle : c.args.d.cycle ≤ 2 ^ 64 - 1 = omega (arith, c.well_formed) in
+    simp (c.picked-due_most.ensures, c.picked-last.ensures, c.mode_of.ensures, le-leb _ _ received, le-leb _ _ cycle)
+    (joined true (map (λ (h : Hidden). leb h.value h.most) (without 9 (without 17 (hidden_fields c.args.d)))))

@@ -5,5 +5,4 @@ use Rattle.registers.proofs.mask.Goals as goal
 
 pub returns : goal.returns
 returns c =
-    let a = c in
-    c.picked.ensures ∙ rw c.row-at.ensures (row_bits a.args.kind a.args.n a.requires)
+    c.picked.ensures ∙ rw c.row-at.ensures (row_bits c.args.kind c.args.n c.requires)

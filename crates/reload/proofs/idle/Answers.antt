@@ -2,7 +2,7 @@
 use Rattle.std.proofs.Common.{arith}
 use Rattle.reload.specs.Reload.{idle_at, idle_rounds}
 use Rattle.reload.proofs.Laps.{smod_bit}
-use Rattle.reload.proofs.Rounds.{going_first, going_on, going_end, going-count}
+use Rattle.reload.proofs.Rounds.{going_first, going_on, going_end, going_count}
 use Rattle.reload.proofs.idle.Goals as goal
 
 pub loop-left-init : goal.loop-left-init
@@ -10,16 +10,14 @@ loop-left-init c = (going_first _ _ _, c.lap_of-x.ensures.1)
 
 pub idle_round-r-requires : goal.idle_round-r-requires
 idle_round-r-requires c =
-    let start = c in
-    (c.loop-left-test.true, smod_bit _ _ start.clocking_of-k.ensures, c.loop-left.invariant.1)
+    (c.loop-left-test.true, smod_bit _ _ c.clocking_of-k.ensures, c.loop-left.invariant.1)
 
 pub overflow_sub-left : goal.overflow_sub-left
 overflow_sub-left c = c.idle_round-r.ensures.0.most
 
 pub overflow_add-rounds : goal.overflow_add-rounds
 overflow_add-rounds c =
-    let l = c in
-    omega (arith, l.loop-left.invariant.0.within, c.loop-left-test.true)
+    omega (arith, c.loop-left.invariant.0.within, c.loop-left-test.true)
 
 pub loop-left-smaller : goal.loop-left-smaller
 loop-left-smaller c =
@@ -34,16 +32,13 @@ loop-left-preserved c =
 pub returns : goal.returns
 unfolding idle_at idle_rounds
 returns c =
-    let end = c in
-    let at = end in
-    let start = at in
-    let g = at.loop-left.invariant.0 in (
-      simp (going-count g end.loop-left-test.false, start.lap_of-x.ensures.0, start.clocking_of-k.ensures),
+    let g = c.loop-left.invariant.0 in (
+      simp (going_count g c.loop-left-test.false, c.lap_of-x.ensures.0, c.clocking_of-k.ensures),
       simp (
         c.put_lap.ensures,
         c.wrapping_add_u64.ensures.value,
-        going_end g end.loop-left-test.false,
-        start.lap_of-x.ensures.0,
-        start.clocking_of-k.ensures,
+        going_end g c.loop-left-test.false,
+        c.lap_of-x.ensures.0,
+        c.clocking_of-k.ensures,
       ),
     )

@@ -9,8 +9,7 @@ use Rattle.reload.proofs.idles.Goals as goal
 pub returns-then-not-settled : goal.returns-then-not-settled
 unfolding idles_at
 returns-then-not-settled c =
-    let a = c in
-    simp (sym a.requires ∙ c.if-not-settled.true, and-false)
+    simp (sym c.requires ∙ c.if-not-settled.true, and-false)
 
 pub returns-then-not-timer1_alone : goal.returns-then-not-timer1_alone
 unfolding idles_at reload_only
@@ -21,13 +20,11 @@ returns-then-not-timer1_alone c =
 pub returns : goal.returns
 unfolding idles_at reload_only
 returns c =
-    let n = c in
-    let t = n.timer1_alone in
-    let a = n in
+    let t = c.timer1_alone in
     simp (
       bits,
-      sym t.ensures ∙ n.if-not-timer1_alone.false,
+      sym t.ensures ∙ c.if-not-timer1_alone.false,
       c.line_rests.ensures,
-      sym a.requires ∙ a.if-not-settled.false,
+      sym c.requires ∙ c.if-not-settled.false,
       and-true,
     )

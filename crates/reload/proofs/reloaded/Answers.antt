@@ -8,20 +8,17 @@ use Rattle.reload.proofs.reloaded.Goals as goal
 pub returns : goal.returns
 unfolding reloaded
 returns c =
-    let add = c in
-    let by = add in
-    let s = by in
-    let k = s.args.k in
-    let x = s.args.x in
-    let smod = s.requires.0 in
-    let ok = s.requires.1 in
-    let counted : add.wrapping_add_u8-counter.result % 16 ≡ (x.counter + by.picked.result) % 16 = omega (arith, add.wrapping_add_u8-counter.ensures.value) in (
+    let k = c.args.k in
+    let x = c.args.x in
+    let smod = c.requires.0 in
+    let ok = c.requires.1 in
+    let counted : c.wrapping_add_u8-counter.result % 16 ≡ (x.counter + c.picked.result) % 16 = omega (arith, c.wrapping_add_u8-counter.ensures.value) in (
       simp (
         bits,
         counted,
         c.picked-sample.ensures,
         c.picked-2.ensures,
-        by.picked.ensures,
+        c.picked.ensures,
         tick_is k.smod x.half smod ok.half,
         half_is k.smod x.half smod ok.half,
       ),

@@ -6,12 +6,11 @@ use Rattle.reload.proofs.timer1_alone.Goals as goal
 pub returns : goal.returns
 unfolding timer1_alone
 returns c =
-    let set = c in
     simp (
       bits,
       c.counts_high0.ensures,
       c.counts0.ensures,
-      set.timer0_mode.ensures,
-      set.timer1_mode.ensures,
-      set.counts1.ensures,
+      c.timer0_mode.ensures,
+      c.timer1_mode.ensures,
+      c.counts1.ensures,
     )

@@ -12,11 +12,9 @@ returns-then-p-eq0 c = simp (eq-eqb _ _ c.if-p-eq0.true)
 pub returns-then-p-last_position : goal.returns-then-p-last_position
 unfolding send_move
 returns-then-p-last_position c =
-    let b = c in
-    simp (ne_eqb _ _ b.if-p-eq0.false, eq-eqb _ _ (c.if-p-last_position.true ∙ b.last_position.ensures), or_bit b.args.s.scon 1)
+    simp (ne_eqb _ _ c.if-p-eq0.false, eq-eqb _ _ (c.if-p-last_position.true ∙ c.last_position.ensures), or_bit c.args.s.scon 1)
 
 pub returns : goal.returns
 unfolding send_move
 returns c =
-    let b = c in
-    simp (ne_eqb _ _ b.if-p-eq0.false, ne_eqb _ _ (λ e. c.if-p-last_position.false (e ∙ sym b.last_position.ensures)))
+    simp (ne_eqb _ _ c.if-p-eq0.false, ne_eqb _ _ (λ e. c.if-p-last_position.false (e ∙ sym c.last_position.ensures)))

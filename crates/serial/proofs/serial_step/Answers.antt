@@ -6,7 +6,7 @@ use Rattle.machine.specs.Record.{serial_mode}
 use Rattle.machine.specs.Serial.{with_half}
 use Rattle.receiver.proofs.Ranges.{Kept}
 use Rattle.serial.proofs.Quiet.{rest_idles}
-use Rattle.serial.proofs.Ranges.{ok, sends_below, ticks_kept, half_kept, step-shift, step-ticks}
+use Rattle.serial.proofs.Ranges.{ok, sends_below, ticks_kept, half_kept, step_shift, step_ticks}
 use Rattle.serial.proofs.serial_step.Goals as goal
 
 pub returns-then-idles : goal.returns-then-idles
@@ -16,37 +16,29 @@ returns-then-idles c =
 
 pub send_move-requires : goal.send_move-requires
 send_move-requires c =
-    let b = c in
-    sends_below b.args.s b.requires.serial_ok
+    sends_below c.args.s c.requires.serial_ok
 
 pub send_ticks-requires : goal.send_ticks-requires
 send_ticks-requires c =
-    let b = c in
-    let k = b.requires.ticks_ok in
-    let o = b.requires.serial_ok in record { n_bound = omega arith; counter_bound = o.send.counter; position_bound = sends_below b.args.s o }
+    let k = c.requires.ticks_ok in
+    let o = c.requires.serial_ok in record { n_bound = omega arith; counter_bound = o.send.counter; position_bound = sends_below c.args.s o }
 
 pub receive_ticks-requires : goal.receive_ticks-requires
 receive_ticks-requires c =
-    let n = c in
-    let b = n in
-    let a = b.args in
+    let a = c.args in
     let m = serial_mode a.s.scon in
     let t = with_half a.k.half a.s in
-    let kept = half_kept a.k.half a.s b.requires.ticks_ok.half b.requires.serial_ok in
-    let u = subst (Kept m) (sym c.send_ticks.ensures) (ticks_kept m a.k.send t kept) in record { rxd_bound = b.requires.rxd_bound; scon_nonzero = (λ e. n.if-mode_of-eq0.false (n.mode_of.ensures ∙ sym u.mode ∙ e)); serial_ok = ok m c.send_ticks.result u }
+    let kept = half_kept a.k.half a.s c.requires.ticks_ok.half c.requires.serial_ok in
+    let u = subst (Kept m) (sym c.send_ticks.ensures) (ticks_kept m a.k.send t kept) in record { rxd_bound = c.requires.rxd_bound; scon_nonzero = (λ e. c.if-mode_of-eq0.false (c.mode_of.ensures ∙ sym u.mode ∙ e)); serial_ok = ok m c.send_ticks.result u }
 
 pub returns-then-mode_of-eq0 : goal.returns-then-mode_of-eq0
 returns-then-mode_of-eq0 c =
-    let n = c in
-    let b = n in
-    let a = b.args in
+    let a = c.args in
     simp (c.receive_shift.ensures, c.send_move.ensures)
-    (sym (step-shift a.k a.rxd a.s b.requires.ticks_ok.half b.requires.serial_ok (sym n.mode_of.ensures ∙ n.if-mode_of-eq0.true)))
+    (sym (step_shift a.k a.rxd a.s c.requires.ticks_ok.half c.requires.serial_ok (sym c.mode_of.ensures ∙ c.if-mode_of-eq0.true)))
 
 pub returns-else-mode_of-eq0 : goal.returns-else-mode_of-eq0
 returns-else-mode_of-eq0 c =
-    let n = c in
-    let b = n in
-    let a = b.args in
+    let a = c.args in
     simp (c.receive_ticks.ensures, c.send_ticks.ensures)
-    (sym (step-ticks a.k a.rxd a.s b.requires.ticks_ok.half b.requires.serial_ok (λ e. n.if-mode_of-eq0.false (n.mode_of.ensures ∙ e))))
+    (sym (step_ticks a.k a.rxd a.s c.requires.ticks_ok.half c.requires.serial_ok (λ e. c.if-mode_of-eq0.false (c.mode_of.ensures ∙ e))))

@@ -39,12 +39,8 @@ picks v s p q r e f g =
 pub returns : goal.returns
 unfolding written
 returns c =
-    let d = c in
-    let e = d in
-    let b = e in
-    let m = b in
-    let a = m.args in
-    picks a.v a.s b.picked-sending.result e.picked-receiving.result d.picked-position.result
-    (simp (m.mode_of.ensures, m.mode_of-mode.ensures) at b.picked-sending.ensures)
-    (simp (m.mode_of.ensures, m.mode_of-mode.ensures) at e.picked-receiving.ensures)
-    (simp (m.mode_of-mode.ensures, low1) at d.picked-position.ensures)
+    let a = c.args in
+    picks a.v a.s c.picked-sending.result c.picked-receiving.result c.picked-position.result
+    (simp (c.mode_of.ensures, c.mode_of-mode.ensures) at c.picked-sending.ensures)
+    (simp (c.mode_of.ensures, c.mode_of-mode.ensures) at c.picked-receiving.ensures)
+    (simp (c.mode_of-mode.ensures, low1) at c.picked-position.ensures)

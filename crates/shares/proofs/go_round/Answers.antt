@@ -3,7 +3,7 @@ use native.Mathlib.Nat.{min-le_left, min-le_right}
 use mathlib.Core.Path.{refl, sym, ◌∙◌}
 use native.Mathlib.Omega.{arith}
 use lib.ListN.{length-set}
-use Rattle.shares.proofs.Rounds.{round-on, round-out}
+use Rattle.shares.proofs.Rounds.{round_on, round_out}
 use borrow.Author.Rules.{rules}
 use Rattle.shares.proofs.go_round.Goals as goal
 
@@ -33,8 +33,7 @@ least-more-requires c = search rules
 
 pub overflow_add-output : goal.overflow_add-output
 overflow_add-output c =
-    let w = c in
-    record { fits = omega (arith, c.least-first.ensures, c.least-more.ensures, c.shared_slice_known-in-loop-i-2-1.given w.loop-i.i) }
+    record { fits = omega (arith, c.least-first.ensures, c.least-more.ensures, c.shared_slice_known-in-loop-i-2-1.given c.loop-i.i) }
 
 pub offset_bounds-output-i : goal.offset_bounds-output-i
 offset_bounds-output-i c = search rules
@@ -53,18 +52,16 @@ loop-i-smaller c = search rules
 
 pub loop-i-preserved : goal.loop-i-preserved
 loop-i-preserved c =
-    let w = c in
-    let a = w.args in
+    let a = c.args in
     let t = c.loop-i-test.true in
-    let on = round-on a.wishes.now w.loop-i.i a.part w.loop-i.left w.loop-i.output t (omega (arith, w.loop-i.invariant.1)) in
-    (search rules, rw length-set w.loop-i.invariant.1, rw (c.least-more.ensures, c.least-first.ensures) (on ∙ w.loop-i.invariant.2))
+    let on = round_on a.wishes.now c.loop-i.i a.part c.loop-i.left c.loop-i.output t (omega (arith, c.loop-i.invariant.1)) in
+    (search rules, rw length-set c.loop-i.invariant.1, rw (c.least-more.ensures, c.least-first.ensures) (on ∙ c.loop-i.invariant.2))
 
 pub shape_of-output : goal.shape_of-output
 shape_of-output c = search rules
 
 pub returns : goal.returns
 returns c =
-    let w = c in
-    let a = w.args in
-    sym (round-out a.wishes.now w.loop-i.i a.part w.loop-i.left w.loop-i.output c.loop-i-test.false w.loop-i.invariant.1)
-    ∙ w.loop-i.invariant.2
+    let a = c.args in
+    sym (round_out a.wishes.now c.loop-i.i a.part c.loop-i.left c.loop-i.output c.loop-i-test.false c.loop-i.invariant.1)
+    ∙ c.loop-i.invariant.2

@@ -1,7 +1,7 @@
 -- `over_of` is its definition: what is over less the first firstParts from i on is the slice less all of them.
 use native.Mathlib.Nat.{min-le_right}
 use mathlib.Core.Path.{refl, sym, ◌∙◌}
-use Rattle.shares.proofs.Rounds.{over-on, over-out}
+use Rattle.shares.proofs.Rounds.{over_on, over_out}
 use borrow.Author.Rules.{rules}
 use Rattle.shares.proofs.over_of.Goals as goal
 
@@ -31,12 +31,11 @@ loop-i-smaller c = search rules
 
 pub loop-i-preserved : goal.loop-i-preserved
 loop-i-preserved c =
-    let w = c in
-    let a = w.args in
-    let on = over-on a.wishes.now w.loop-i.i a.part w.loop-i.over c.loop-i-test.true in
-    (search rules, rw (c.least-over.ensures, c.least.ensures) (sym on ∙ w.loop-i.invariant.1))
+    let a = c.args in
+    let on = over_on a.wishes.now c.loop-i.i a.part c.loop-i.over c.loop-i-test.true in
+    (search rules, rw (c.least-over.ensures, c.least.ensures) (sym on ∙ c.loop-i.invariant.1))
 
 pub returns : goal.returns
 returns c =
     let a = c.args in
-    sym (over-out a.wishes.now c.loop-i.i a.part c.loop-i.over c.loop-i-test.false) ∙ c.loop-i.invariant.1
+    sym (over_out a.wishes.now c.loop-i.i a.part c.loop-i.over c.loop-i-test.false) ∙ c.loop-i.invariant.1

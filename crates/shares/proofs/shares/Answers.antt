@@ -7,12 +7,12 @@ use borrow.Author.Rules.{rules}
 use Rattle.machine.specs.Calls.{longest}
 use Rattle.laws.proofs.Guards.{yes, no}
 use Rattle.slices.specs.Shares.{tunnels_ok, slice_ok, shares_of}
-use Rattle.shares.proofs.Answers.{sized, both, bad-tunnels, bad-wish, shared}
+use Rattle.shares.proofs.Answers.{sized, both, bad_tunnels_lem, bad_wish_lem, shared}
 use Rattle.shares.proofs.shares.Goals as goal
 
 pub returns-then-not-n-output : goal.returns-then-not-n-output
 unfolding tunnels_ok
-returns-then-not-n-output c = both (bad-tunnels _ _ _ c.if-not-n-output.true)
+returns-then-not-n-output c = both (bad_tunnels_lem _ _ _ c.if-not-n-output.true)
 
 pub wishes_ok-requires : goal.wishes_ok-requires
 wishes_ok-requires c = search rules
@@ -21,7 +21,7 @@ pub returns-then-not-b-wishes_ok : goal.returns-then-not-b-wishes_ok
 unfolding tunnels_ok slice_ok
 returns-then-not-b-wishes_ok c =
     let b = c.args.b in
-    both (bad-wish b _ _ c.if-not-n-output.false (no (ap (λ (ok : Bool). leb b longest && ok) c.wishes_ok.ensures) c.if-not-b-wishes_ok.true))
+    both (bad_wish_lem b _ _ c.if-not-n-output.false (no (ap (λ (ok : Bool). leb b longest && ok) c.wishes_ok.ensures) c.if-not-b-wishes_ok.true))
 
 pub nonzero_div-part : goal.nonzero_div-part
 unfolding tunnels_ok

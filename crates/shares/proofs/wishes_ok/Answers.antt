@@ -1,7 +1,7 @@
 -- `wishes_ok` is its definition: what it makes of the wishes from i on is what it makes of all.
 use mathlib.Core.Path.{refl, sym, ◌∙◌}
 use borrow.Author.Tests.{le-leb, lt-leb}
-use Rattle.shares.proofs.Rounds.{wishes-on, wishes-out}
+use Rattle.shares.proofs.Rounds.{wishes_on, wishes_out}
 use borrow.Author.Rules.{rules}
 use Rattle.shares.proofs.wishes_ok.Goals as goal
 
@@ -16,9 +16,8 @@ bounds-wishes-i c = search rules
 
 pub returns-then-wishes-i-gt-LONGEST : goal.returns-then-wishes-i-gt-LONGEST
 returns-then-wishes-i-gt-LONGEST c =
-    let w = c in
-    let ws = w.args.wishes.now in
-    sym (sym w.loop-i.invariant.1 ∙ wishes-on ws w.loop-i.i c.loop-i-test.true ∙ simp (lt-leb _ _ c.if-wishes-i-gt-LONGEST.true))
+    let ws = c.args.wishes.now in
+    sym (sym c.loop-i.invariant.1 ∙ wishes_on ws c.loop-i.i c.loop-i-test.true ∙ simp (lt-leb _ _ c.if-wishes-i-gt-LONGEST.true))
 
 pub overflow_add-i : goal.overflow_add-i
 overflow_add-i c = search rules
@@ -28,10 +27,9 @@ loop-i-smaller c = search rules
 
 pub loop-i-preserved : goal.loop-i-preserved
 loop-i-preserved c =
-    let w = c in
-    let ws = w.args.wishes.now in
-    let on = simp (le-leb _ _ c.if-wishes-i-gt-LONGEST.false) at (wishes-on ws w.loop-i.i c.loop-i-test.true) in
-    (search rules, sym on ∙ w.loop-i.invariant.1)
+    let ws = c.args.wishes.now in
+    let on = simp (le-leb _ _ c.if-wishes-i-gt-LONGEST.false) at (wishes_on ws c.loop-i.i c.loop-i-test.true) in
+    (search rules, sym on ∙ c.loop-i.invariant.1)
 
 pub returns : goal.returns
-returns c = sym (wishes-out c.args.wishes.now c.loop-i.i c.loop-i-test.false) ∙ c.loop-i.invariant.1
+returns c = sym (wishes_out c.args.wishes.now c.loop-i.i c.loop-i-test.false) ∙ c.loop-i.invariant.1

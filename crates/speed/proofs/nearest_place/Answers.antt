@@ -20,12 +20,11 @@ pair_at-requires-in-loop-n c = omega (arith, c.loop-n.invariant.0.place)
 
 pub nearer-requires : goal.nearer-requires
 nearer-requires c =
-    let w = c in
     let next : c.pair_at.result.smod ≤ 1 =
-    rw c.pair_at.ensures (is_pair w.loop-n.n (omega arith)).smod
+    rw c.pair_at.ensures (is_pair c.loop-n.n (omega arith)).smod
     in
     let best : c.pair_at-in-loop-n.result.smod ≤ 1 =
-    rw c.pair_at-in-loop-n.ensures (is_pair w.loop-n.best (omega (arith, w.loop-n.invariant.0.place))).smod
+    rw c.pair_at-in-loop-n.ensures (is_pair c.loop-n.best (omega (arith, c.loop-n.invariant.0.place))).smod
     in
     search rules
 

@@ -3,7 +3,7 @@ use Prim.Native.Nat.{◌*◌, ◌≤◌}
 use native.Mathlib.Omega.{arith}
 use native.Mathlib.Nat.{mul-le-mul}
 use Rattle.baud.specs.Speed.{within}
-use Rattle.speed.proofs.Fractions.{away-sized}
+use Rattle.speed.proofs.Fractions.{away_sized}
 use Rattle.speed.proofs.within.Goals as goal
 
 pub overflow_mul-most : goal.overflow_mul-most
@@ -13,11 +13,10 @@ overflow_mul-most c =
 
 pub at_most-requires : goal.at_most-requires
 at_most-requires c =
-    let s = c in
-    let a = s.args in
-    let l = s.requires.0 in
+    let a = c.args in
+    let l = c.requires.0 in
     let w : a.rate * a.tolerance ≤ 10000000000 = mul-le-mul l.rate_most l.tolerance_most in (
-      rw c.away.ensures (away-sized a.crystal a.rate a.p l.crystal_most l.rate_most s.requires.1),
+      rw c.away.ensures (away_sized a.crystal a.rate a.p l.crystal_most l.rate_most c.requires.1),
       record { numerator = omega arith; denominator = omega arith },
     )
 

@@ -7,6 +7,5 @@ use Rattle.ticks.proofs.half_after.Goals as goal
 pub returns : goal.returns
 unfolding half_after
 returns c =
-    let b = c in
-    let e : b.wrapping_add_u8.result % 2 ≡ (b.args.half + b.args.overflow1) % 2 = omega (arith, b.wrapping_add_u8.ensures) in
+    let e : c.wrapping_add_u8.result % 2 ≡ (c.args.half + c.args.overflow1) % 2 = omega (arith, c.wrapping_add_u8.ensures) in
     simp (c.picked.ensures, low1, e)

@@ -6,5 +6,4 @@ use Rattle.ticks.proofs.serial_ticks.Goals as goal
 pub returns : goal.returns
 unfolding serial_ticks
 returns c =
-    let b = c in
-    simp (c.half_after-half.ensures, c.ticks_of-receive.ensures, c.ticks_of-send.ensures, b.ticks1-by1.ensures, b.mode_of-mode.ensures, low1)
+    simp (c.half_after-half.ensures, c.ticks_of-receive.ensures, c.ticks_of-send.ensures, c.ticks1-by1.ensures, c.mode_of-mode.ensures, low1)

@@ -5,6 +5,4 @@ use Rattle.timer2.proofs.baud_step.Goals as goal
 pub returns : goal.returns
 unfolding baud_step
 returns c =
-    let h = c in
-    let s = h in
-    simp (c.flagged.ensures, c.picked.ensures, h.heeds_t2ex.ensures, h.with_count2-u.ensures, s.counted2-s.ensures, s.pair16.ensures)
+    simp (c.flagged.ensures, c.picked.ensures, c.heeds_t2ex.ensures, c.with_count2-u.ensures, c.counted2-s.ensures, c.pair16.ensures)

@@ -8,17 +8,10 @@ use Rattle.timer2.proofs.capture_step.Goals as goal
 pub returns-then-heeds_t2ex : goal.returns-then-heeds_t2ex
 unfolding capture_step
 returns-then-heeds_t2ex c =
-    let h = c in
-    let f = h in
-    let s = f in
-    let r = s in
-    simp (c.copied2-u.ensures, or_bit f.flagged.result EXF2)
-    (simp (sym h.heeds_t2ex.ensures ∙ c.if-heeds_t2ex.true, f.flagged.ensures, f.with_count2-u.ensures, s.counted2-s.ensures, r.picked16-reload.ensures, r.pair16.ensures, r.captures-2.ensures))
+    simp (c.copied2-u.ensures, or_bit c.flagged.result EXF2)
+    (simp (sym c.heeds_t2ex.ensures ∙ c.if-heeds_t2ex.true, c.flagged.ensures, c.with_count2-u.ensures, c.counted2-s.ensures, c.picked16-reload.ensures, c.pair16.ensures, c.captures-2.ensures))
 
 pub returns-else-heeds_t2ex : goal.returns-else-heeds_t2ex
 unfolding capture_step
 returns-else-heeds_t2ex c =
-    let f = c in
-    let s = f in
-    let r = s in
-    simp (sym c.heeds_t2ex.ensures ∙ c.if-heeds_t2ex.false, f.flagged.ensures, f.with_count2-u.ensures, s.counted2-s.ensures, r.picked16-reload.ensures, r.pair16.ensures, r.captures-2.ensures)
+    simp (sym c.heeds_t2ex.ensures ∙ c.if-heeds_t2ex.false, c.flagged.ensures, c.with_count2-u.ensures, c.counted2-s.ensures, c.picked16-reload.ensures, c.pair16.ensures, c.captures-2.ensures)

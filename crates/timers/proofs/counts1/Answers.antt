@@ -6,5 +6,4 @@ use Rattle.timers.proofs.counts1.Goals as goal
 pub returns : goal.returns
 unfolding counts1
 returns c =
-    let e = c in
-    simp (bits, c.clocked.ensures, e.enabled.ensures, e.timer0_mode.ensures)
+    simp (bits, c.clocked.ensures, c.enabled.ensures, c.timer0_mode.ensures)

@@ -5,5 +5,4 @@ use Rattle.traces.proofs.entry_fault.Goals as goal
 pub returns : goal.returns
 unfolding entry_fault
 returns c =
-    let k = c in
-    simp (c.picked.ensures, c.picked-of_cycles.ensures, k.entry_cycles-cycles.ensures, k.entry_pins-pins.ensures)
+    simp (c.picked.ensures, c.picked-of_cycles.ensures, c.entry_cycles-cycles.ensures, c.entry_pins-pins.ensures)

@@ -1,7 +1,7 @@
 -- Entry by entry: what is still to run and what was added up so far are `Running`.
 use native.Mathlib.Omega.{arith}
-use Rattle.jump.proofs.Taken.{ready-taken, run-taken, laps-taken}
-use Rattle.traces.proofs.Running.{running_first, running-within, running-on, running-end, running-sum}
+use Rattle.jump.proofs.Taken.{ready_taken, run_taken, laps_taken}
+use Rattle.traces.proofs.Running.{running_first, running_within, running_on, running_end, running_sum}
 use Rattle.traces.proofs.run_entries.Goals as goal
 
 pub loop-i-init : goal.loop-i-init
@@ -9,26 +9,20 @@ loop-i-init c = running_first _ _ c.requires.0 c.none.ensures
 
 pub advance-a-requires : goal.advance-a-requires
 advance-a-requires c =
-    let p = c in
-    let w = p in
-    let l = w.loop-i in (
-      ready-taken p.entry_pins.result l.run.device p.pins_of-pins.ensures l.invariant.good,
+    let l = c.loop-i in (
+      ready_taken c.entry_pins.result l.run.device c.pins_of-pins.ensures l.invariant.good,
       omega (arith, c.entry_cycles.ensures),
-      running-within l.invariant w.requires.1,
+      running_within l.invariant c.requires.1,
     )
 
 pub loop-i-preserved : goal.loop-i-preserved
 loop-i-preserved c =
-    let a = c in
-    let k = a in
-    let p = k in
-    let w = p in
-    let l = w.loop-i in
-    let r = a.advance-a.ensures in
-    running-on l.invariant w.loop-i-test.true k.entry_cycles.ensures p.entry_pins.ensures
-    (run-taken _ l.run.device p.pins_of-pins.ensures _ r.2) (laps-taken _ l.run.device p.pins_of-pins.ensures _ l.run.totals r.1)
+    let l = c.loop-i in
+    let r = c.advance-a.ensures in
+    running_on l.invariant c.loop-i-test.true c.entry_cycles.ensures c.entry_pins.ensures
+    (run_taken _ l.run.device c.pins_of-pins.ensures _ r.2) (laps_taken _ l.run.device c.pins_of-pins.ensures _ l.run.totals r.1)
 
 pub returns : goal.returns
 returns c =
     let i = c.loop-i.invariant in
-    (running-sum i c.loop-i-test.false, running-end i c.loop-i-test.false)
+    (running_sum i c.loop-i-test.false, running_end i c.loop-i-test.false)
