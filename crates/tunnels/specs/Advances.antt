@@ -2,7 +2,7 @@
 -- No promise is written out here: `Learnt` is what the check reads off a function's contract, and what a caller of it learns.
 use Rattle.std.specs.Prelude.{ℕ, zero, suc, ◌<◌, ◌≡◌, true, List, [], ◌∷◌, length, get_or}
 use base.Fml.{Lft}
-use Rattle.std.specs.Borrow.{Bor}
+use Rattle.std.specs.Borrow.{Bor, MutBor}
 use Rattle.machine.specs.declared.Device.{Device}
 use Rattle.machine.specs.declared.JumpAnswer.{JumpAnswer}
 use Rattle.machine.specs.Record.{accepted, pins_ok}
@@ -17,7 +17,7 @@ use Rattle.c51_run.proofs.jump.Reads as jump-reads
 
 -- n is the share of tunnel i in a slice, as a call of `shares` that passed promises it
 pub data Share : ℕ → Type 0 where
-  share : (κ ι : Lft) (b : ℕ) (wishes before shares : Bor (List ℕ)) (i : ℕ)
+  share : (κ ι : Lft) (b : ℕ) (wishes : Bor (List ℕ)) (before shares : MutBor (List ℕ)) (i : ℕ)
       → shares-reads.Learnt (κ, (ι, tt)) (b, (wishes, (before, tt))) 0 (b, (wishes, (shares, tt)))
       → i < length wishes.now → Share (get_or shares.now i 0)
 
