@@ -7,7 +7,6 @@ cd "$(dirname "$0")/.." || exit 1
 least_calls=340000
 least_board_calls=50000
 least_speed_calls=22000
-least_share_calls=20000
 least_risen_dumps=95000
 least_overflow_runs=37000
 least_round_jumps=51000
@@ -36,7 +35,6 @@ styles=$(sh model/styles.sh "$stage")
 calls=0
 board_calls=0
 speed_calls=0
-share_calls=0
 risen_dumps=0
 overflow_runs=0
 round_jumps=0
@@ -62,11 +60,11 @@ damage() {
 }
 
 # same NAME SCRIPT: the script within reach gets the same answers from both. The calls are its lines but faults, dumps
-# and set records; those of the 82C53 and of the board begin with V, those that ask for a speed with B, those that ask for
-# shares of a slice with H. Dumps are counted where a flag rose: from the 42nd number on every second one is its ever.
-# Runs are counted where a timer overflowed: the third to fifth number of an answer to J, T or VX are its totals. Jumps are
-# counted where they took more than one round: the sixth number of an answer to J or VX. Saves and loads, P and Q, are
-# counted where they pass, and loads by what refuses them.
+# and set records; those of the 82C53 and of the board begin with V, those that ask for a speed with B. Dumps are counted
+# where a flag rose: from the 42nd number on every second one is its ever. Runs are counted where a timer overflowed: the
+# third to fifth number of an answer to J, T or VX are its totals. Jumps are counted where they took more than one round: the
+# sixth number of an answer to J or VX. Saves and loads, P and Q, are counted where they pass, and loads by what refuses
+# them.
 same() {
     if ! "$reach" <"$2" >"$work/script"; then
         fault "$1" 'reach fails'
@@ -78,15 +76,14 @@ same() {
         compared=$((compared + lines))
         shortened=$((shortened + $(diff "$2" "$work/script" | grep -c '^<')))
         awk 'NR == FNR { code[FNR] = $1; for (i = 42; i < NF; i += 2) rose[FNR] += $i == 1; lapped[FNR] = $3 + $4 + $5; rounds[FNR] = $6; next }
-            code[FNR] != "?" && !/^[DS]/ { n++; v += /^V/; b += /^B/; h += /^H/ } /^D/ && rose[FNR] { d++ } /^(J|T|VX) / && lapped[FNR] { o++ }
+            code[FNR] != "?" && !/^[DS]/ { n++; v += /^V/; b += /^B/ } /^D/ && rose[FNR] { d++ } /^(J|T|VX) / && lapped[FNR] { o++ }
             /^(J|VX) / && rounds[FNR] > 1 { r++ } /^P/ && code[FNR] == "0" { p++ } /^Q/ { q[code[FNR]]++ }
-            END { print n + 0, v + 0, b + 0, h + 0, d + 0, o + 0, r + 0, p + 0, q["0"] + 0, q["15"] + 0, q["16"] + 0, q["17"] + 0 }' \
+            END { print n + 0, v + 0, b + 0, d + 0, o + 0, r + 0, p + 0, q["0"] + 0, q["15"] + 0, q["16"] + 0, q["17"] + 0 }' \
             "$work/model" "$work/script" >"$work/counted"
-        read -r n v b h d o r p q q15 q16 q17 <"$work/counted"
+        read -r n v b d o r p q q15 q16 q17 <"$work/counted"
         calls=$((calls + n))
         board_calls=$((board_calls + v))
         speed_calls=$((speed_calls + b))
-        share_calls=$((share_calls + h))
         risen_dumps=$((risen_dumps + d))
         overflow_runs=$((overflow_runs + o))
         round_jumps=$((round_jumps + r))
@@ -118,15 +115,14 @@ for style in $styles; do
     done
 done
 
-printf '%s calls compared, %s of them of the 82C53 or the board, %s for a speed, %s for shares, %s runs in which a timer overflowed, ' \
-    "$calls" "$board_calls" "$speed_calls" "$share_calls" "$overflow_runs"
+printf '%s calls compared, %s of them of the 82C53 or the board, %s for a speed, %s runs in which a timer overflowed, ' \
+    "$calls" "$board_calls" "$speed_calls" "$overflow_runs"
 printf '%s jumps of more than one round, ' "$round_jumps"
 printf '%s saves, %s loads and %s, %s and %s refused by 15, 16 and 17, ' "$saves" "$loads" "$by_15" "$by_16" "$by_17"
 printf '%s shortened, and %s dumps in which a flag rose, in %s lines, seeds from %s\n' "$shortened" "$risen_dumps" "$compared" "$first"
 [ $# -gt 0 ] || [ "$calls" -ge "$least_calls" ] || fault compare "fewer than $least_calls calls"
 [ $# -gt 0 ] || [ "$board_calls" -ge "$least_board_calls" ] || fault compare "fewer than $least_board_calls calls of the board"
 [ $# -gt 0 ] || [ "$speed_calls" -ge "$least_speed_calls" ] || fault compare "fewer than $least_speed_calls calls for a speed"
-[ $# -gt 0 ] || [ "$share_calls" -ge "$least_share_calls" ] || fault compare "fewer than $least_share_calls calls for shares"
 [ $# -gt 0 ] || [ "$risen_dumps" -ge "$least_risen_dumps" ] || fault compare "fewer than $least_risen_dumps dumps in which a flag rose"
 [ $# -gt 0 ] || [ "$overflow_runs" -ge "$least_overflow_runs" ] || fault compare "fewer than $least_overflow_runs runs in which a timer overflowed"
 [ $# -gt 0 ] || [ "$round_jumps" -ge "$least_round_jumps" ] || fault compare "fewer than $least_round_jumps jumps of more than one round"

@@ -1,14 +1,12 @@
 //! The benchmark: single cycles, offers, the idle station, a device at rest and in power-down, checkpoints, the 82C53 and the board, a
-//! speed, shares of a slice, a frame, stations side by side on one thread and on two, and a thousand tags, next to the plain model and to
-//! other programs; and how many tunnels a core carries.
+//! speed, a frame, and a thousand tags, next to the plain model and to other programs; and how many tunnels a core carries.
 use bench::others::{emu8051, s51, Figure};
 use bench::plain::Plain;
 use bench::planning::{self, Work, HOUR, STATION};
 use bench::tight::Idle;
 use bench::timing::{race, seconds, Contender};
 use c51::{
-    address, control, flag, pcon, pin, port, raw, Board, Device, Interval, CHECKPOINT_52, GATES_HIGH, MAX_CYCLES, MAX_TUNNELS,
-    PINS_HIGH,
+    address, control, flag, pcon, pin, port, raw, Board, Device, Interval, CHECKPOINT_52, GATES_HIGH, MAX_CYCLES, PINS_HIGH,
 };
 use c51model::baud::find_speed;
 use c51model::checkpoint;
@@ -17,9 +15,8 @@ use compare::record::{interval_to_model, to_model};
 use compare::STAGE;
 use station::chips::{Chips, CYCLES_A_SECOND, PASSES};
 use station::frame::{frame, Stretch, BIT};
-use station::options::SLICE;
 use station::reader::Reader;
-use station::run::{Plan, Row, Station};
+use station::run::{Plan, Station};
 use std::hint::black_box;
 use std::process::exit;
 
@@ -55,10 +52,8 @@ fn main() {
     interval_timer(part);
     board(part);
     speed(part);
-    shares(part);
     one_frame(part);
     plan_tunnels(part);
-    side_by_side(part);
     let s51 = s51();
     let emu8051 = emu8051(&std::env::temp_dir());
     others(&s51, &emu8051, per_cycle);
@@ -493,38 +488,6 @@ fn speed(part: u64) {
     lines(&contenders, &times, rounds * SPEEDS.len() as u64, ("ns", 1e9), 1);
 }
 
-/// The shares of a slice that is used up, and of one that fills every wish, in turn.
-fn shares(part: u64) {
-    let calls = MANY_CALLS / part / 10;
-    for tunnels in [11, MAX_TUNNELS] {
-        let wishes: Vec<u64> = (0..tunnels as u64).map(|place| CYCLES_A_SECOND + 1_000 * (place % 5)).collect();
-        let slices = [tunnels as u64 * CYCLES_A_SECOND, MAX_CYCLES];
-        for slice in slices {
-            let [mut library, mut model] = [(); 2].map(|()| vec![0; tunnels]);
-            let answers = (c51::shares(slice, &wishes, &mut library), c51model::shares::shares(slice, &wishes, &mut model));
-            assert_eq!((answers, library), ((Ok(()), Ok(())), model), "the library and the model share alike");
-        }
-        let mut contenders = [
-            Contender::new("shares (c51_shares)", || {
-                let mut given = vec![0; tunnels];
-                for call in 0..calls as usize {
-                    black_box(raw::shares(black_box(slices[call % 2]), black_box(&wishes), black_box(&mut given)));
-                }
-            }),
-            Contender::new("shares, plain model", || {
-                let mut given = vec![0; tunnels];
-                for call in 0..calls as usize {
-                    let shared = c51model::shares::shares(black_box(slices[call % 2]), black_box(&wishes), black_box(&mut given));
-                    black_box(shared).expect("tunnels and wishes within their limits");
-                }
-            }),
-        ];
-        let times = race(RUNS, &mut contenders);
-        println!("\nThe shares of a time slice among {tunnels} tunnels:");
-        lines(&contenders, &times, calls, ("ns", 1e9), 1);
-    }
-}
-
 /// Frames one after the other, each read by interrupt. Gives the rounds of the jumps.
 fn read_frames<C: Chips>(frames: u64) -> u64 {
     let mut reader: Reader<C> = Reader::new();
@@ -577,41 +540,6 @@ fn plan_tunnels(part: u64) {
     println!("Tunnels that one core carries in real time, by these times:");
     for (name, tags_an_hour) in [("idle", 0), ("with a tag every minute", 60), ("with a tag every second", 3_600)] {
         println!("  {name:<34} {:>12}", planning::tunnels(tags_an_hour, &hour, &tag));
-    }
-}
-
-/// Tags of each station side by side, and the cycles of a short slice.
-const TAGS_SIDE_BY_SIDE: u64 = 20;
-const SHORT_SLICE: u64 = 100_000;
-
-/// Eleven and 64 stations by slices, on one thread and on two, next to the same stations one after the other; and by short slices.
-fn side_by_side(part: u64) {
-    let tags = TAGS_SIDE_BY_SIDE / part;
-    for stations in [11, MAX_TUNNELS] {
-        let plan = planning::side_by_side(stations, tags);
-        let rows = planning::one_by_one(&plan);
-        assert!(rows.iter().all(Row::right), "tags as sent");
-        let by_slices = |name, slice, threads| {
-            assert!(planning::by_slices(&plan, slice, threads) == rows, "the same tags and cycles");
-            let plan = &plan;
-            Contender::new(name, move || {
-                black_box(planning::by_slices(plan, slice, threads));
-            })
-        };
-        let mut contenders = [
-            Contender::new("one after the other, no slices", || {
-                black_box(planning::one_by_one(&plan));
-            }),
-            by_slices("slices, 1 thread", SLICE, 1),
-            by_slices("slices, 2 threads", SLICE, 2),
-            by_slices("short slices, 1 thread", SHORT_SLICE, 1),
-            by_slices("short slices, 2 threads", SHORT_SLICE, 2),
-        ];
-        let times = race(RUNS, &mut contenders);
-        println!(
-            "\n{stations} stations, {tags} tags each with a second before it, slices of {SLICE} and {SHORT_SLICE} cycles, a tag:"
-        );
-        lines(&contenders, &times, plan.tags, ("us", 1e6), 0);
     }
 }
 

@@ -4,9 +4,8 @@ use crate::timing::{race, Contender};
 use c51::{address, Board, Device, PINS_HIGH};
 use station::chips::{CYCLES_A_SECOND, PASSES};
 use station::frame::{BIT, LAP};
-use station::options::scheduler;
 use station::reader::Reader;
-use station::run::{run, Plan, Row, Station};
+use station::run::{Plan, Station};
 use std::hint::black_box;
 
 /// Cycles of an hour.
@@ -71,27 +70,6 @@ pub fn tags(runs: u32, tags: u64) -> Work {
         }
         (station.reader.chips.device.cycle, station.reader.rounds)
     })
-}
-
-/// Stations side by side, each with so many tags and a second before each.
-pub fn side_by_side(stations: usize, tags: u64) -> Plan {
-    Plan { stations, tags: tags * stations as u64, gap: CYCLES_A_SECOND, seed: 1, noise: 1, chosen: Vec::new() }
-}
-
-/// Such a run by slices of so many cycles, on so many threads. Gives what was read.
-pub fn by_slices(plan: &Plan, slice: u64, threads: usize) -> Vec<Row> {
-    run::<Board>(plan, scheduler(slice, threads), None, |_| ()).rows
-}
-
-/// The same a station after the other, with no slices.
-pub fn one_by_one(plan: &Plan) -> Vec<Row> {
-    let mut rows = Vec::new();
-    for number in 1..=plan.stations {
-        let mut station: Station<Board> = Station::new(number, plan.seed);
-        rows.extend((0..plan.tags / plan.stations as u64).map(|_| station.read_tag(plan, None)));
-    }
-    rows.sort_by_key(|row| (row.cycle, row.station));
-    rows
 }
 
 /// Cycles of a jump within a frame.

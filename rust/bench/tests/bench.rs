@@ -3,7 +3,6 @@ use bench::plain::Plain;
 use bench::planning::{self, Work, HOUR};
 use bench::tight::Idle;
 use c51::{flag, pcon, Board, Device, MAX_CYCLES, PINS_HIGH};
-use station::options::scheduler;
 use station::reader::Reader;
 use station::run::{run, Plan, Ran};
 use station::timing::Time;
@@ -48,10 +47,8 @@ fn a_device_at_rest_stays_at_rest() {
 #[test]
 fn the_plain_chips_read_the_same_tags() {
     let plan = Plan { stations: 3, tags: 6, gap: 5_000, seed: 8, noise: 1, chosen: Vec::new() };
-    // the model keeps its stage for each thread
-    let one_thread = scheduler(1_000_000, 1);
-    let Ran { rows, laps, .. } = run::<Board>(&plan, one_thread, None, |_| ());
-    let plain = run::<Plain>(&plan, one_thread, None, |_| ());
+    let Ran { rows, laps, .. } = run::<Board>(&plan, None, |_| ());
+    let plain = run::<Plain>(&plan, None, |_| ());
     assert_eq!((plain.rows, plain.laps), (rows.clone(), laps));
     assert_eq!(rows.iter().filter(|row| matches!(row.time, Some(Time::Took(_)))).count(), 4);
     assert!(rows.iter().all(|row| row.last_digit.is_some_and(|cycle| cycle < row.cycle)), "{rows:?}");
@@ -111,9 +108,6 @@ fn missing_programs_are_named_and_left_out() {
         "x jump (c51_jump)\n",
         "SMOD and TH1 for a wanted speed:\n  speed (c51_speed) ",
         "x speed, plain model\n  speed, plain model ",
-        "The shares of a time slice among 11 tunnels:\n  shares (c51_shares) ",
-        "The shares of a time slice among 64 tunnels:\n  shares (c51_shares) ",
-        "x shares, plain model\n  shares, plain model ",
         "A frame of 960 cycles in 948 rounds, by wake look and jump, read by interrupt:\n  library ",
         "Planning, for tunnels with 921600 cycles a second:\n  an idle hour                         3317760000 cycles   2211840000 rounds ",
         " s\n  a tag, all its calls included ",
@@ -121,10 +115,6 @@ fn missing_programs_are_named_and_left_out() {
         " ns a round\n  the jump's loop, in a frame ",
         "Tunnels that one core carries in real time, by these times:\n  idle ",
         "\n  with a tag every second ",
-        "\n11 stations, 1 tags each with a second before it, slices of 58982400 and 100000 cycles, a tag:\n  one after the other, ",
-        "\n64 stations, 1 tags each with a second before it, slices of 58982400 and 100000 cycles, a tag:\n  one after the other, ",
-        "x one after the other, no slices\n  slices, 2 threads ",
-        "x one after the other, no slices\n  short slices, 2 threads ",
         "Run time for 1000 tags",
     ] {
         assert!(out.contains(part), "{part}\n{out}");

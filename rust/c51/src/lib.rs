@@ -38,7 +38,7 @@ pub use raw::{AnswerRow, CallRow, ANSWER_WORDS, CALL_WORDS, NONE};
 pub use raw::{Board, Counter, Interval};
 pub use raw::{Device, FlagTimes, Interrupts, Receiver, Sender, Serial, Timer2, Timers, Totals};
 pub use scheduler::{Scheduler, Tunnel};
-pub use shares::{shares, MAX_TUNNELS};
+pub use shares::{shares, SharesRefusal, MAX_TUNNELS};
 pub use speed::{speed, Speed, MAX_CRYSTAL, MAX_RATE, MAX_TOLERANCE};
 
 /// All pins at 1.
@@ -194,13 +194,11 @@ pub enum Refusal {
     BadLength = 15,
     BadLayout = 16,
     BadValue = 17,
-    BadTunnels = 18,
-    BadWish = 19,
 }
 
 impl Refusal {
     /// Every refusal, in the order of the codes.
-    pub const ALL: [Refusal; 18] = [
+    pub const ALL: [Refusal; 16] = [
         Refusal::BadRecord,
         Refusal::BadKind,
         Refusal::BadAddress,
@@ -217,8 +215,6 @@ impl Refusal {
         Refusal::BadLength,
         Refusal::BadLayout,
         Refusal::BadValue,
-        Refusal::BadTunnels,
-        Refusal::BadWish,
     ];
 
     /// The library's code.
@@ -251,8 +247,6 @@ impl std::fmt::Display for Refusal {
             Refusal::BadLength => "a checkpoint cut short or with bytes left over, or a buffer of another length",
             Refusal::BadLayout => "a checkpoint with another count or another address",
             Refusal::BadValue => "a checkpoint with a value outside its range or mask, or a received byte that is not SBUF's",
-            Refusal::BadTunnels => "shares for zero or more than 64 tunnels, or an output of another length",
-            Refusal::BadWish => "a time slice or a wish of more than 2^40 cycles",
         })
     }
 }

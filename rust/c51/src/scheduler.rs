@@ -1,5 +1,5 @@
 //! Many devices on one computer: slice after slice, each is advanced by its share.
-use crate::{shares, Refusal, MAX_TUNNELS};
+use crate::{shares, SharesRefusal, MAX_TUNNELS};
 use std::num::{NonZeroU64, NonZeroUsize};
 use std::sync::Mutex;
 use std::thread;
@@ -51,7 +51,7 @@ pub trait Tunnel {
 /// let slices = scheduler.run(&mut lamps, |_| ())?;
 /// assert_eq!((lamps[0].laps, lamps[1].laps), (1_000_000 / 256, 250_000 / 16));
 /// assert_eq!(slices, 125); // both for 50 slices, and the first alone for 75
-/// # Ok::<(), Refusal>(())
+/// # Ok::<(), Box<dyn std::error::Error>>(())
 /// ```
 #[derive(Clone, Copy, PartialEq, Eq, Debug)]
 pub struct Scheduler {
@@ -64,9 +64,9 @@ pub struct Scheduler {
 impl Scheduler {
     /// One slice: gives how many cycles the tunnels were advanced by in all, 0 where none wishes for any. Refused as
     /// [`shares`](crate::shares()) is, before any tunnel is advanced.
-    pub fn slice<T: Tunnel + Send>(&self, tunnels: &mut [T]) -> Result<u64, Refusal> {
+    pub fn slice<T: Tunnel + Send>(&self, tunnels: &mut [T]) -> Result<u64, SharesRefusal> {
         if tunnels.len() > MAX_TUNNELS {
-            return Err(Refusal::BadTunnels);
+            return Err(SharesRefusal::BadTunnels);
         }
         let (mut wishes, mut given) = ([0; MAX_TUNNELS], [0; MAX_TUNNELS]);
         let (wishes, given) = (&mut wishes[..tunnels.len()], &mut given[..tunnels.len()]);
@@ -91,7 +91,7 @@ impl Scheduler {
 
     /// Slice after slice until no tunnel wishes for a cycle; `after` is called after each with the tunnels as they stand. Gives how many
     /// slices there were. Where a slice is refused, it and all after it are not run.
-    pub fn run<T: Tunnel + Send>(&self, tunnels: &mut [T], mut after: impl FnMut(&[T])) -> Result<u64, Refusal> {
+    pub fn run<T: Tunnel + Send>(&self, tunnels: &mut [T], mut after: impl FnMut(&[T])) -> Result<u64, SharesRefusal> {
         let mut slices = 0;
         while self.slice(tunnels)? > 0 {
             slices += 1;

@@ -2,9 +2,8 @@
 //! that includes `c51.h`; every call from C, and the C program of docs/CHECKPOINT.md.
 use c51::raw::*;
 use c51::{address, call, control, gate, out, pcon, pin, port, Flag, Refusal};
-use c51::{
-    CHECKPOINT_51, CHECKPOINT_52, GATES_HIGH, MAX_CRYSTAL, MAX_CYCLES, MAX_RATE, MAX_TOLERANCE, MAX_TRACE, MAX_TUNNELS, PINS_HIGH,
-};
+use c51::{SharesRefusal, MAX_TUNNELS};
+use c51::{CHECKPOINT_51, CHECKPOINT_52, GATES_HIGH, MAX_CRYSTAL, MAX_CYCLES, MAX_RATE, MAX_TOLERANCE, MAX_TRACE, PINS_HIGH};
 use std::collections::BTreeSet;
 use std::mem::{offset_of, size_of};
 use std::path::{Path, PathBuf};
@@ -115,8 +114,8 @@ fn constants() -> Vec<Constant> {
         ("C51_BAD_LENGTH", Refusal::BadLength as u64),
         ("C51_BAD_LAYOUT", Refusal::BadLayout as u64),
         ("C51_BAD_VALUE", Refusal::BadValue as u64),
-        ("C51_BAD_TUNNELS", Refusal::BadTunnels as u64),
-        ("C51_BAD_WISH", Refusal::BadWish as u64),
+        ("C51_BAD_TUNNELS", SharesRefusal::BadTunnels as u64),
+        ("C51_BAD_WISH", SharesRefusal::BadWish as u64),
         ("C51_FLAG_TF0", Flag::Tf0 as u64),
         ("C51_FLAG_TF1", Flag::Tf1 as u64),
         ("C51_FLAG_IE0", Flag::Ie0 as u64),

@@ -1,6 +1,6 @@
 //! Shares of a time slice: every small slice against a sharing out cycle by cycle, the limits, what a refusal leaves; and the scheduler,
 //! which advances devices by them.
-use c51::{address, pin, shares, Device, Refusal, Scheduler, Tunnel, MAX_CYCLES, MAX_TUNNELS, PINS_HIGH};
+use c51::{address, pin, shares, Device, Scheduler, SharesRefusal, Tunnel, MAX_CYCLES, MAX_TUNNELS, PINS_HIGH};
 use std::num::{NonZeroU64, NonZeroUsize};
 use std::sync::Barrier;
 use std::thread;
@@ -55,26 +55,37 @@ fn as_many_tunnels_and_cycles_as_there_can_be() {
     assert_eq!(given(0, &[MAX_CYCLES, 0]), [0, 0]);
 }
 
+#[test]
+fn codes_and_refusals() {
+    assert_eq!(SharesRefusal::ALL.map(SharesRefusal::code), [18, 19]);
+    for refusal in SharesRefusal::ALL {
+        assert_eq!(SharesRefusal::of_code(refusal.code()), Some(refusal));
+        assert!(!refusal.to_string().is_empty());
+    }
+    assert_eq!([18, 19].map(SharesRefusal::of_code), [SharesRefusal::BadTunnels, SharesRefusal::BadWish].map(Some));
+    assert_eq!([0, 17, 20].map(SharesRefusal::of_code), [None; 3]);
+}
+
 /// The number, 18 before 19, and an output that stays.
 #[test]
 fn refused() {
     let most = MAX_CYCLES;
     for (slice, wishes, places, why) in [
-        (10, vec![], 0, Refusal::BadTunnels),
-        (10, vec![], 1, Refusal::BadTunnels),
-        (10, vec![5; 65], 65, Refusal::BadTunnels),
-        (10, vec![5; 1_000], 1_000, Refusal::BadTunnels),
-        (10, vec![5, 6], 1, Refusal::BadTunnels),
-        (10, vec![5, 6], 3, Refusal::BadTunnels),
-        (10, vec![5, 6], 0, Refusal::BadTunnels),
-        (most + 1, vec![5, 6], 2, Refusal::BadWish),
-        (u64::MAX, vec![5, 6], 2, Refusal::BadWish),
-        (10, vec![most + 1, 6], 2, Refusal::BadWish),
-        (10, vec![5, most + 1], 2, Refusal::BadWish),
-        (10, vec![u64::MAX; 64], 64, Refusal::BadWish),
-        (most + 1, vec![], 0, Refusal::BadTunnels),
-        (10, vec![most + 1], 2, Refusal::BadTunnels),
-        (most + 1, vec![u64::MAX; 65], 65, Refusal::BadTunnels),
+        (10, vec![], 0, SharesRefusal::BadTunnels),
+        (10, vec![], 1, SharesRefusal::BadTunnels),
+        (10, vec![5; 65], 65, SharesRefusal::BadTunnels),
+        (10, vec![5; 1_000], 1_000, SharesRefusal::BadTunnels),
+        (10, vec![5, 6], 1, SharesRefusal::BadTunnels),
+        (10, vec![5, 6], 3, SharesRefusal::BadTunnels),
+        (10, vec![5, 6], 0, SharesRefusal::BadTunnels),
+        (most + 1, vec![5, 6], 2, SharesRefusal::BadWish),
+        (u64::MAX, vec![5, 6], 2, SharesRefusal::BadWish),
+        (10, vec![most + 1, 6], 2, SharesRefusal::BadWish),
+        (10, vec![5, most + 1], 2, SharesRefusal::BadWish),
+        (10, vec![u64::MAX; 64], 64, SharesRefusal::BadWish),
+        (most + 1, vec![], 0, SharesRefusal::BadTunnels),
+        (10, vec![most + 1], 2, SharesRefusal::BadTunnels),
+        (most + 1, vec![u64::MAX; 65], 65, SharesRefusal::BadTunnels),
     ] {
         let before: Vec<u64> = (7..).take(places).collect();
         let mut output = before.clone();
@@ -193,7 +204,7 @@ fn a_slice_that_is_refused() {
             let scheduler = scheduler(slice, threads);
             (scheduler.slice(&mut tunnels), scheduler.run(&mut tunnels, |_| panic!("a slice")))
         };
-        let [tunnels, wish] = [Refusal::BadTunnels, Refusal::BadWish].map(|why| (Err(why), Err(why)));
+        let [tunnels, wish] = [SharesRefusal::BadTunnels, SharesRefusal::BadWish].map(|why| (Err(why), Err(why)));
         assert_eq!(refused(100, &[]), tunnels);
         assert_eq!(refused(100, &[1; 65]), tunnels);
         assert_eq!(refused(MAX_CYCLES + 1, &[1]), wish);

@@ -6,7 +6,6 @@ pub mod ran;
 pub mod reach;
 pub mod record;
 pub mod rounds;
-pub mod shares;
 pub mod speeds;
 
 /// The model's stage, the N for which requests One to N have all landed: tests/stage has it, for tests/compare.sh too.

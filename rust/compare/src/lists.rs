@@ -1,7 +1,6 @@
 //! Fresh random records of any content and random lists of calls, beside those of the model's generator.
 use crate::files::{file_of, some_file};
 use crate::pair::{Pair, Tally};
-use crate::shares::shares_call;
 use crate::speeds::speed_call;
 use crate::{entry, STAGE};
 use c51::{address, control, flag, pcon, port};
@@ -545,11 +544,9 @@ fn next_board_name(rng: &mut Rng) -> BoardName {
     }
 }
 
-/// Calls of a list: one of so many asks for a speed; of the others one of so many for shares of a slice; of the others one of so many
-/// saves or loads a checkpoint; of the others one of so many is of the 82C53 or of the board; of the rest one of so many puts the device
-/// to sleep, and in power-down one of so many ends it.
+/// Calls of a list: one of so many asks for a speed; of the others one of so many saves or loads a checkpoint; of the others one of so
+/// many is of the 82C53 or of the board; of the rest one of so many puts the device to sleep, and in power-down one of so many ends it.
 const SPEED: u64 = 25;
-const SHARES: u64 = 40;
 const CHECKPOINT: u64 = 20;
 const BOARD: u64 = 3;
 const SLEEP: u64 = 20;
@@ -609,9 +606,6 @@ pub fn run_list(rng: &mut Rng, length: u64) -> Result<Tally, String> {
         }
         if rng.one_in(SPEED) {
             return Request::Speed(speed_call(rng));
-        }
-        if rng.one_in(SHARES) {
-            return Request::Shares(shares_call(rng));
         }
         if rng.one_in(CHECKPOINT) {
             let request = next_checkpoint(rng);

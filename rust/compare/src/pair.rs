@@ -4,7 +4,6 @@ use crate::ran::{row, Ran};
 use crate::reach::{shortened, REACH};
 use crate::record::{board_to_model, interval_of_model, interval_to_model, to_model, Model};
 use crate::rounds::{by_single_cycles, Rounds};
-use crate::shares::compare_shares;
 use crate::speeds::compare_speed;
 use c51::raw::{self, BoardAnswer, BoardJumpAnswer, JumpAnswer, LineAnswer, LookAnswer, OutputsAnswer, RunAnswer, ValueAnswer};
 use c51::{pcon, AnswerRow, Board, Device, Interval, Totals};
@@ -166,7 +165,7 @@ impl Pair {
                     ran.compare()?;
                     ran = Ran::from(self.library.device);
                 }
-                Request::Speed(_) | Request::Shares(_) | Request::Save | Request::Dump => {}
+                Request::Speed(_) | Request::Save | Request::Dump => {}
             }
         }
         ran.compare()?;
@@ -182,9 +181,6 @@ impl Pair {
             Request::Board(call) => answer = row(0, Some(&self.board_call(call)?)),
             Request::Speed(call) => {
                 compare_speed(call)?;
-            }
-            Request::Shares(call) => {
-                compare_shares(call, call.wishes.len())?;
             }
             Request::Save => answer = row(compare_save(&self.library.device, &self.model.device)?, Some(&[])),
             Request::Load(file) => {
@@ -394,8 +390,6 @@ pub struct Tally {
     pub of_the_board: u64,
     /// The calls for a speed.
     pub for_a_speed: u64,
-    /// The calls for shares of a slice.
-    pub for_shares: u64,
     /// The saves that passed, and the loads.
     pub saved: u64,
     pub loads: Loads,
@@ -425,7 +419,6 @@ impl Tally {
             woken: woken.into(),
             of_the_board: matches!(request, Request::Board(_)).into(),
             for_a_speed: matches!(request, Request::Speed(_)).into(),
-            for_shares: matches!(request, Request::Shares(_)).into(),
             saved: (*request == Request::Save && answer[0] == 0).into(),
             loads,
             overflowed: [2, 3, 4].map(|word| (has_totals && answer[word] > 0).into()),
@@ -443,7 +436,6 @@ impl std::ops::AddAssign for Tally {
         self.woken += other.woken;
         self.of_the_board += other.of_the_board;
         self.for_a_speed += other.for_a_speed;
-        self.for_shares += other.for_shares;
         self.saved += other.saved;
         self.loads += other.loads;
         self.overflowed.iter_mut().zip(other.overflowed).for_each(|(count, other)| *count += other);

@@ -8,7 +8,6 @@ use compare::lists::{raw_interval, raw_record, run_list, run_record, script, sty
 use compare::pair::{totals_of, Pair, Tally};
 use compare::record::{board_to_model, interval_of_model, interval_to_model, of_model, to_model};
 use compare::rounds::{by_single_cycles, Rounds};
-use compare::shares::{self, compare_shares, places, shares_call};
 use compare::speeds::{compare_speed, speed_call, Outcomes};
 use compare::{entry, STAGE};
 use random::Rng;
@@ -24,7 +23,6 @@ const LISTS: u64 = 3_000;
 const LIST_LENGTH: u64 = 50;
 const RECORDS: u64 = 100_000;
 const SPEEDS: u64 = 40_000;
-const SHARES: u64 = 200_000;
 
 #[test]
 fn scripts_of_the_model() {
@@ -41,7 +39,6 @@ fn scripts_of_the_model() {
     assert!(total.cycles > 1_000_000, "{total:?}");
     assert!(total.of_the_board > SCRIPTS_OF_A_STYLE * LINES, "{total:?}");
     assert!(total.for_a_speed > SCRIPTS_OF_A_STYLE * LINES / 2, "{total:?}");
-    assert!(total.for_shares > SCRIPTS_OF_A_STYLE * LINES / 2, "{total:?}");
     assert!(total.saved > LINES / 2, "{total:?}");
     assert!(total.loads.counts().iter().all(|&count| count > LINES / 20), "{total:?}");
     assert!(total.overflowed.iter().all(|&runs| runs > total.calls / 100), "{total:?}");
@@ -79,7 +76,6 @@ fn fresh_lists() {
     assert!(total.woken > LISTS / 20, "{total:?}");
     assert!(total.of_the_board > total.calls / 4, "{total:?}");
     assert!(total.for_a_speed > total.calls / 50, "{total:?}");
-    assert!(total.for_shares > total.calls / 100, "{total:?}");
     assert!(total.saved > total.calls / 60 && total.loads.passed > total.calls / 60, "{total:?}");
     assert!(total.loads.counts().iter().all(|&count| count > LISTS / 50), "{total:?}");
     assert!(total.overflowed.iter().all(|&runs| runs > LISTS / 20), "{total:?}");
@@ -161,31 +157,6 @@ fn speeds() {
     let Outcomes { found, none, refused } = outcomes;
     let rare = [found, none, refused, at_the_end, just_outside, either_side].iter().any(|&count| count < SPEEDS / 20);
     assert!(!rare, "{outcomes:?}, {at_the_end} at the end, {just_outside} just outside, {either_side} on either side");
-}
-
-/// The slice used up, every wish filled and both refusals are all common, and so are 64 tunnels, a tunnel that gets a part of what is
-/// over, and an output of another length.
-#[test]
-fn shares_of_a_slice() {
-    let mut outcomes = shares::Outcomes::default();
-    let [mut most, mut in_part, mut other_length] = [0; 3];
-    for seed in 0..SHARES {
-        let rng = &mut Rng::part(11, seed);
-        let call = shares_call(rng);
-        let places = places(rng, &call);
-        let (code, output) = compare_shares(&call, places).unwrap_or_else(|what| panic!("shares {seed}: {what}"));
-        outcomes.add(&call, code, &output);
-        let wishes = &call.wishes;
-        if code == 0 {
-            let part = call.slice / wishes.len() as u64;
-            most += u64::from(wishes.len() == 64);
-            in_part += u64::from(output.iter().zip(wishes).any(|(share, wish)| (part + 1..*wish).contains(share)));
-        }
-        other_length += u64::from((1..=64).contains(&wishes.len()) && code == 18);
-    }
-    assert_eq!(outcomes.calls(), SHARES);
-    let rare = outcomes.counts().iter().chain(&[most, in_part, other_length]).any(|&count| count < SHARES / 20);
-    assert!(!rare, "{outcomes:?}, {most} of 64 tunnels, {in_part} in part, {other_length} with another length");
 }
 
 /// Cycles with one pin byte.

@@ -159,8 +159,6 @@ fn faults_and_other_lines_stay() {
     assert_eq!(script_in_reach(text), text);
     // a call for a speed, also with numbers past every limit, and one that is none
     stays("R 51\nW 152 64\n", &["B 11059200 9600 50", "B 0011059200 9600 0", "B 1099511627776 1099511627776 0", "B 1 2"]);
-    // a call for shares likewise
-    stays("R 51\nW 152 64\n", &["H 1099511627776 2 0007 1099511627776", "H 0 0", "H 1099511627777 1 1099511627777", "H 5 2 1"]);
     // the frame of the line that is read as a call waits, and a last line with no newline is a line
     assert_eq!(script_in_reach(&format!("{text}\nJ 127 1099511627776")), format!("{text}\nJ 127 2777"));
 }

@@ -3,7 +3,6 @@ use crate::board::BoardCall;
 use crate::checkpoint::Hex;
 use crate::lines::Numbers;
 use crate::record;
-use crate::shares::SharesCall;
 use crate::speed::SpeedCall;
 use c51::{call, CallRow, Device};
 use std::fmt;
@@ -32,8 +31,6 @@ pub enum Request {
     Board(BoardCall),
     /// The call that asks for a speed.
     Speed(SpeedCall),
-    /// The call that shares out a time slice.
-    Shares(SharesCall),
     /// The device's checkpoint.
     Save,
     /// A checkpoint in place of the device; of a longer file than any checkpoint, as much as tells that it is longer.
@@ -65,7 +62,6 @@ impl Request {
     /// What a line of this name and these numbers asks for, or none where it is a fault. A load has no numbers, but a file.
     pub fn of(name: &[u8], numbers: &Numbers) -> Option<Request> {
         match (name, numbers.first.as_slice()) {
-            (b"H", _) => SharesCall::of(numbers).map(Request::Shares),
             (b"S", numbers) => Some(Request::Put(Box::new(record::of_numbers(numbers)?))),
             (b"D", []) => Some(Request::Dump),
             (b"P", []) => Some(Request::Save),
@@ -123,7 +119,6 @@ impl fmt::Display for Request {
             Request::Call(call) => call.fmt(f),
             Request::Board(call) => call.fmt(f),
             Request::Speed(call) => call.fmt(f),
-            Request::Shares(call) => call.fmt(f),
             Request::Save => f.write_str("P"),
             Request::Load(file) if file.is_empty() => f.write_str("Q"),
             Request::Load(file) => write!(f, "Q {}", Hex(file)),

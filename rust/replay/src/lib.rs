@@ -3,8 +3,8 @@
 //!
 //! A script is taken as its bytes come ([`lines`]), each line is a call or is about the record ([`calls`], [`record`]),
 //! calls one after the other run as a list ([`list`]), and what they answer is written ([`answers`]). Those of the 82C53
-//! and of the board run by themselves ([`board`]), and so do those that save and load a checkpoint ([`checkpoint`]), the one
-//! that asks for a speed ([`speed`]) and the one that shares out a time slice ([`shares`]). [`script`] joins these.
+//! and of the board run by themselves ([`board`]), and so do those that save and load a checkpoint ([`checkpoint`]) and the
+//! one that asks for a speed ([`speed`]). [`script`] joins these.
 pub mod answers;
 pub mod board;
 pub mod calls;
@@ -13,5 +13,4 @@ pub mod lines;
 pub mod list;
 pub mod record;
 pub mod script;
-pub mod shares;
 pub mod speed;

@@ -137,7 +137,6 @@ mod tests {
     use crate::calls::Call;
     use crate::checkpoint::KEPT;
     use crate::record::{numbers, text};
-    use crate::shares::SharesCall;
     use crate::speed::SpeedCall;
     use c51::Device;
 
@@ -253,61 +252,6 @@ mod tests {
         }
     }
 
-    /// The call that shares out a slice has it, how many wishes there are, and as many, each of 64 bits.
-    #[test]
-    fn calls_for_shares() {
-        let most = u64::MAX;
-        for (slice, wishes) in [(0, vec![]), (most, vec![0]), (10, vec![1, 9, 2, 9]), (0, vec![most; 65]), (7, vec![3; 100])] {
-            let words: String = wishes.iter().map(|wish| format!(" {wish}")).collect();
-            let line = format!("H {slice} {}{words}", wishes.len());
-            let expected = Request::Shares(SharesCall { slice, wishes });
-            assert_eq!(expected.to_string(), line);
-            assert_eq!(request(line.as_bytes()), Some(expected), "{line}");
-        }
-        for line in [
-            "H",
-            "H ",
-            "H 1",
-            "H 1 ",
-            "H 1 1",
-            "H 1 0 5",
-            "H 1 2 5",
-            "H 1 1 5 6",
-            "H 1 1 5 ",
-            "H 1 1  5",
-            " H 1 1 5",
-            "H1 1 5",
-            "HH 1 1 5",
-            "h 1 1 5",
-            "H x 1 5",
-            "H 1 x 5",
-            "H 1 1 x",
-            "H 1 1 -5",
-            "H 1 1 5\r",
-            "H 18446744073709551616 1 5",
-            "H 1 18446744073709551615",
-            "H 1 1 18446744073709551616",
-        ] {
-            assert_eq!(request(line.as_bytes()), None, "{line:?}");
-        }
-    }
-
-    /// Of more wishes than are kept the count is judged, and a number that does not fit.
-    #[test]
-    fn many_wishes() {
-        let kept = super::KEPT - 2;
-        for count in [kept, kept + 1, 2 * kept] {
-            let line = format!("H 9 {count}{}", " 3".repeat(count));
-            let expected = SharesCall { slice: 9, wishes: vec![3; kept] };
-            assert_eq!(request(line.as_bytes()), Some(Request::Shares(expected)), "{count} wishes");
-            for fault in
-                [format!("{line} 3"), format!("{line} "), format!("{line}0000000000000000000"), line[..line.len() - 2].to_string()]
-            {
-                assert_eq!(request(fault.as_bytes()), None, "{count} wishes");
-            }
-        }
-    }
-
     fn load(line: &str) -> Option<Vec<u8>> {
         match request(line.as_bytes()) {
             Some(Request::Load(file)) => Some(file),
@@ -418,7 +362,7 @@ mod tests {
             assert_eq!(call(line), None, "{line}");
         }
         // names, also those of calls that are not there yet
-        for line in ["X", "x", "w 137 1", "d", "o", "z 127 5", "b 1 2 3", "p", "q 00", "DD", "OO", "h 1 0", "F 127", "G 127 1", "?"]
+        for line in ["X", "x", "w 137 1", "d", "o", "z 127 5", "b 1 2 3", "p", "q 00", "DD", "OO", "H 1 0", "F 127", "G 127 1", "?"]
         {
             assert_eq!(call(line), None, "{line}");
         }

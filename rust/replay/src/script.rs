@@ -107,10 +107,6 @@ impl<W: Write> Replay<W> {
                 self.run_list()?;
                 call.answer(&mut self.out)
             }
-            Some(Request::Shares(call)) => {
-                self.run_list()?;
-                call.answer(&mut self.out)
-            }
             Some(Request::Save) => {
                 self.run_list()?;
                 checkpoint::save(&self.board.device, &mut self.out)

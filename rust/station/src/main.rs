@@ -4,7 +4,7 @@
 //! rate instead.
 //! Exit status: 0 all as sent, or a speed found; 1 a wrong tag, or no speed within the tolerance; 2 a bad command line, a file
 //! that cannot be written, or one that is no saved run.
-use c51::{Board, Scheduler};
+use c51::Board;
 use station::options::{Options, Save, USAGE};
 use station::run::{Ran, Row, Run};
 use station::{report, saved, speed, whole};
@@ -47,11 +47,11 @@ fn print(text: &str) {
     }
 }
 
-/// The saved run of a file, to be gone on with by a scheduler.
-fn load(name: &str, scheduler: Scheduler) -> Run<Board> {
+/// The saved run of a file.
+fn load(name: &str) -> Run<Board> {
     let bytes = File::open(name).and_then(saved::read);
     let bytes = bytes.unwrap_or_else(|why| fail(2, &format!("cannot read {name}: {why}")));
-    Run::load(&bytes, scheduler).unwrap_or_else(|what| fail(2, &format!("cannot go on from {name}: {what}")))
+    Run::load(&bytes).unwrap_or_else(|what| fail(2, &format!("cannot go on from {name}: {what}")))
 }
 
 /// Saves the run in the middle of a frame.
@@ -73,8 +73,8 @@ fn main() {
         exit(if wanted.found().is_some() { 0 } else { 1 });
     }
     let mut run = match &options.load {
-        Some(name) => load(name, options.scheduler),
-        None => Run::new(options.plan.clone(), options.scheduler),
+        Some(name) => load(name),
+        None => Run::new(options.plan.clone()),
     };
     options.fit(&run.plan, run.rows.len() as u64).unwrap_or_else(|why| fail(2, &format!("{why}\n{USAGE}")));
     if let Some(Save { file, .. }) = &options.save {
@@ -87,10 +87,8 @@ fn main() {
     }
     let tags = run.plan.tags;
     let start = Instant::now();
-    let mut shown = run.rows.len() as u64;
     run.read(options.save.as_ref().map_or(tags, |save| save.after), |done| {
-        if done > shown && (done == tags || done - shown >= tags.div_ceil(10)) {
-            shown = done;
+        if done == tags || done % tags.div_ceil(10) == 0 {
             eprintln!("{done} of {tags} tags, {:.1} s", start.elapsed().as_secs_f64());
         }
     });

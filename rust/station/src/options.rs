@@ -3,9 +3,6 @@ use crate::chips::CYCLES_A_SECOND;
 use crate::frame::SAMPLES;
 use crate::run::{Plan, DIGITS};
 use crate::speed::Wanted;
-use c51::{Scheduler, MAX_CYCLES, MAX_TUNNELS};
-use std::num::{NonZeroU64, NonZeroUsize};
-use std::thread::available_parallelism;
 
 pub const USAGE: &str = "usage: station [OPTIONS]
        station --speed CRYSTAL RATE TOLERANCE
@@ -18,8 +15,6 @@ pub const USAGE: &str = "usage: station [OPTIONS]
   --csv FILE      write the table as CSV too
   --vcd FILE      write a waveform of a station around each tag, for GTKWave
   --vcd-station N its number (1); stations 1 and 2 have an 82C53
-  --slice CYCLES  cycles of a time slice, which the stations share, 64 at a time; 1 to 2^40 (58982400, a second for each of 64)
-  --threads N     threads that run stations, 1 to 64 (as many as the processor has)
   --save FILE --after N
                   read N tags, save the run in the middle of a frame of the next, and end
   --load FILE     go on from a saved run; it has its tags, gap, stations, seed and noise
@@ -31,9 +26,6 @@ pub const USAGE: &str = "usage: station [OPTIONS]
 pub const MOST_STATIONS: u64 = 1000;
 pub const LONGEST_GAP: f64 = 1_000_000.0;
 const SHORTEST_GAP: f64 = 0.0001;
-/// The cycles of a slice where none are chosen: a second for each of as many stations as share one.
-pub const SLICE: u64 = CYCLES_A_SECOND * MAX_TUNNELS as u64;
-const MOST_THREADS: usize = MAX_TUNNELS;
 
 /// Where a run is saved, and after how many tags.
 #[derive(Clone, PartialEq, Debug)]
@@ -46,7 +38,6 @@ pub struct Save {
 pub struct Options {
     /// What is sent; of a saved run its file has it.
     pub plan: Plan,
-    pub scheduler: Scheduler,
     pub csv: Option<String>,
     pub vcd: Option<String>,
     /// The station of the waveform.
@@ -72,17 +63,6 @@ fn number(name: &str, value: &str, least: u64, most: u64) -> Result<u64, String>
     })
 }
 
-/// A scheduler of numbers from 1 on.
-pub fn scheduler(slice: u64, threads: usize) -> Scheduler {
-    const FROM_1: &str = "a number from 1 on";
-    Scheduler { slice: NonZeroU64::new(slice).expect(FROM_1), threads: NonZeroUsize::new(threads).expect(FROM_1) }
-}
-
-/// A thread for each processor.
-fn usual_threads() -> usize {
-    available_parallelism().map_or(1, NonZeroUsize::get).min(MOST_THREADS)
-}
-
 /// The gap in cycles.
 fn gap(value: &str) -> Result<u64, String> {
     let plain = value.bytes().all(|b| b.is_ascii_digit() || b == b'.');
@@ -105,10 +85,7 @@ pub fn tag(value: String) -> Result<String, String> {
 impl Options {
     pub fn parse(words: impl Iterator<Item = String>) -> Result<Options, String> {
         let plan = Plan { stations: 11, tags: 0, gap: CYCLES_A_SECOND, seed: 1, noise: 1, chosen: Vec::new() };
-        let (mut slice, mut threads) = (SLICE, usual_threads());
-        let scheduler = scheduler(slice, threads);
-        let mut options =
-            Options { plan, scheduler, csv: None, vcd: None, vcd_station: 1, save: None, load: None, speed: None, help: false };
+        let mut options = Options { plan, csv: None, vcd: None, vcd_station: 1, save: None, load: None, speed: None, help: false };
         let words: Vec<String> = words.collect();
         if let Some((before, after)) = words.iter().position(|word| word == "--speed").map(|at| (&words[..at], &words[at + 1..])) {
             if let Some(other) = before.first() {
@@ -126,7 +103,7 @@ impl Options {
                 continue;
             }
             let plan = ["--tags", "--gap", "--stations", "--seed", "--noise", "--tag"];
-            let others = ["--csv", "--vcd", "--vcd-station", "--slice", "--threads", "--save", "--after", "--load"];
+            let others = ["--csv", "--vcd", "--vcd-station", "--save", "--after", "--load"];
             if plan.contains(&name.as_str()) {
                 of_the_plan = Some(name.clone());
             } else if !others.contains(&name.as_str()) {
@@ -143,8 +120,6 @@ impl Options {
                 "--csv" => options.csv = Some(value),
                 "--vcd" => options.vcd = Some(value),
                 "--vcd-station" => options.vcd_station = number(&name, &value, 1, MOST_STATIONS)? as usize,
-                "--slice" => slice = number(&name, &value, 1, MAX_CYCLES)?,
-                "--threads" => threads = number(&name, &value, 1, MOST_THREADS as u64)? as usize,
                 "--save" => save = Some(value),
                 "--after" => after = Some(number(&name, &value, 0, u64::MAX)?),
                 "--load" => options.load = Some(value),
@@ -156,7 +131,6 @@ impl Options {
                 }
             }
         }
-        options.scheduler = self::scheduler(slice, threads);
         let of_chosen = if options.plan.chosen.is_empty() { 33 } else { options.plan.chosen.len() as u64 };
         options.plan.tags = tags.unwrap_or(of_chosen);
         options.save = match (save, after) {
@@ -202,9 +176,6 @@ mod tests {
     fn good_lines() {
         let options = parse("").unwrap();
         assert_eq!((options.plan.stations, options.plan.tags, options.plan.gap), (11, 33, 921_600));
-        assert_eq!(options.scheduler, scheduler(64 * 921_600, usual_threads()));
-        assert_eq!(parse("--threads 64 --slice 1").unwrap().scheduler, scheduler(1, 64));
-        assert_eq!(parse("--slice 1099511627776 --threads 1 --load a").unwrap().scheduler, scheduler(1 << 40, 1));
         let options = parse("--tags 5 --gap 0.5 --stations 2 --seed 9 --noise 0 --csv a.csv --vcd b.vcd").unwrap();
         assert_eq!(options.plan, Plan { stations: 2, tags: 5, gap: 460_800, seed: 9, noise: 0, chosen: vec![] });
         assert_eq!((options.csv.as_deref(), options.vcd.as_deref(), options.vcd_station), (Some("a.csv"), Some("b.vcd"), 1));
@@ -246,13 +217,6 @@ mod tests {
             ("--stations 1001", "--stations wants a whole number"),
             ("--noise 4", "--noise wants a whole number from 0 to 3"),
             ("--seed x", "--seed wants a whole number"),
-            ("--slice 0", "--slice wants a whole number from 1 to 1099511627776, not '0'"),
-            ("--slice 1099511627777", "--slice wants a whole number from 1 to 1099511627776"),
-            ("--slice 0.5", "--slice wants a whole number"),
-            ("--slice", "--slice wants a value"),
-            ("--threads 0", "--threads wants a whole number from 1 to 64, not '0'"),
-            ("--threads 65", "--threads wants a whole number from 1 to 64"),
-            ("--threads --slice 5", "--threads wants a value"),
             ("--tags", "--tags wants a value"),
             ("--csv --vcd x", "--csv wants a value"),
             ("--vcd-station 0", "--vcd-station wants a whole number from 1 to 1000"),

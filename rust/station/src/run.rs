@@ -4,11 +4,7 @@ use crate::frame::{cut, frame, Noise, Stretch, BIT, BITS, SAMPLES};
 use crate::reader::{Reader, Received};
 use crate::timing::{Time, Timing, CARRIAGE_RETURN};
 use crate::vcd::Waveform;
-use c51::{Scheduler, Tunnel, MAX_TUNNELS};
 use random::Rng;
-use std::collections::VecDeque;
-use std::ops::Range;
-use std::vec::IntoIter;
 
 /// Digits of a tag.
 pub const DIGITS: usize = 15;
@@ -28,14 +24,6 @@ pub struct Plan {
     pub noise: u64,
     /// Tags to send in turn; empty for random ones.
     pub chosen: Vec<String>,
-}
-
-impl Plan {
-    /// The tag of a number, from 0, where tags are chosen.
-    fn chosen(&self, number: u64) -> Option<&String> {
-        let place = number.checked_rem(self.chosen.len() as u64)?;
-        self.chosen.get(place as usize)
-    }
 }
 
 /// A tag as a station read it.
@@ -79,26 +67,6 @@ pub struct UnderWay {
     pub noise: Option<Noise>,
 }
 
-/// What happens to a station next.
-#[derive(Clone, Copy, PartialEq, Debug)]
-enum Step {
-    /// RXD is held.
-    Hold(Stretch),
-    /// The waveform starts or stops.
-    Watch(bool),
-    /// A fish comes in or leaves.
-    Fish(bool),
-}
-
-impl Step {
-    fn cycles(&self) -> u64 {
-        match self {
-            Step::Hold(stretch) => stretch.cycles,
-            _ => 0,
-        }
-    }
-}
-
 /// One station and the random numbers of its line.
 pub struct Station<C> {
     pub number: usize,
@@ -127,48 +95,39 @@ impl<C: Chips> Station<C> {
 
     /// The idle gap, and then, with a fish in the tunnel, the tag and its carriage return.
     pub fn read_tag(&mut self, plan: &Plan, chosen: Option<&String>) -> Row {
-        let (mut tag, first) = self.begin_tag(plan, chosen);
-        first.into_iter().for_each(|step| self.take(step));
-        self.end_tag(plan, &mut tag).into_iter().for_each(|step| self.take(step));
-        self.row(tag)
+        let tag = self.begin_tag(plan, chosen);
+        self.end_tag(plan, tag)
     }
 
-    /// A tag, with the steps over the gap and the first half of it. Before each frame there is a pause of less than two bits, so that
-    /// every phase comes up.
-    fn begin_tag(&mut self, plan: &Plan, chosen: Option<&String>) -> (UnderWay, Vec<Step>) {
+    /// The gap and the first half of the tag. Before each frame there is a pause of less than two bits, so that every phase comes up.
+    pub fn begin_tag(&mut self, plan: &Plan, chosen: Option<&String>) -> UnderWay {
         let sent = chosen.cloned().unwrap_or_else(|| self.random_tag());
         let mut tag = UnderWay { sent, noisy_samples: 0, noise: None };
         let lead = plan.gap.min(BIT);
-        let mut steps = vec![
-            Step::Watch(false),
-            Step::Hold(Stretch { rxd: 1, cycles: plan.gap - lead }),
-            Step::Watch(true),
-            Step::Hold(Stretch { rxd: 1, cycles: lead }),
-            Step::Fish(true),
-        ];
+        self.reader.watch(false);
+        self.reader.hold(Stretch { rxd: 1, cycles: plan.gap - lead });
+        self.reader.watch(true);
+        self.reader.hold(Stretch { rxd: 1, cycles: lead });
+        self.reader.fish(true);
         for byte in tag.sent.clone().bytes().take(MIDDLE_DIGIT) {
-            steps.push(self.pause(plan, &mut tag));
-            steps.extend(frame(byte, tag.noise).into_iter().map(Step::Hold));
+            self.pause(plan, &mut tag);
+            self.send(frame(byte, tag.noise));
         }
-        steps.push(self.pause(plan, &mut tag));
-        steps.extend(tag.middle_frame().0.into_iter().map(Step::Hold));
-        (tag, steps)
+        self.pause(plan, &mut tag);
+        self.send(tag.middle_frame().0);
+        tag
     }
 
-    /// The steps over the other half of the tag, from the middle of the frame on.
-    fn end_tag(&mut self, plan: &Plan, tag: &mut UnderWay) -> Vec<Step> {
-        let mut steps = vec![Step::Watch(true)];
-        steps.extend(tag.middle_frame().1.into_iter().map(Step::Hold));
+    /// The other half of the tag, from the middle of the frame on; gives what the station read.
+    pub fn end_tag(&mut self, plan: &Plan, mut tag: UnderWay) -> Row {
+        self.reader.watch(true);
+        self.send(tag.middle_frame().1);
         for byte in tag.sent.clone().bytes().skip(MIDDLE_DIGIT + 1).chain([CARRIAGE_RETURN]) {
-            steps.push(self.pause(plan, tag));
-            steps.extend(frame(byte, tag.noise).into_iter().map(Step::Hold));
+            self.pause(plan, &mut tag);
+            self.send(frame(byte, tag.noise));
         }
-        steps.extend([Step::Hold(Stretch { rxd: 1, cycles: BIT }), Step::Fish(false)]);
-        steps
-    }
-
-    /// What the station read of a tag that has been sent.
-    fn row(&mut self, tag: UnderWay) -> Row {
+        self.reader.hold(Stretch { rxd: 1, cycles: BIT });
+        self.reader.fish(false);
         let received = self.reader.take_received();
         let (cycle, timer1_laps) = received.last().map_or((0, 0), |last| (last.cycle, last.timer1_laps));
         let woken = received.iter().filter(|r| r.woke).count();
@@ -180,19 +139,14 @@ impl<C: Chips> Station<C> {
     }
 
     /// The pause before a frame, and the frame's noise.
-    fn pause(&mut self, plan: &Plan, tag: &mut UnderWay) -> Step {
-        let cycles = self.rng.below(2 * BIT);
+    fn pause(&mut self, plan: &Plan, tag: &mut UnderWay) {
+        self.reader.hold(Stretch { rxd: 1, cycles: self.rng.below(2 * BIT) });
         tag.noise = self.noise(plan.noise);
         tag.noisy_samples += tag.noise.map_or(0, |noise| noise.samples);
-        Step::Hold(Stretch { rxd: 1, cycles })
     }
 
-    fn take(&mut self, step: Step) {
-        match step {
-            Step::Hold(stretch) => self.reader.hold(stretch),
-            Step::Watch(watching) => self.reader.watch(watching),
-            Step::Fish(inside) => self.reader.fish(inside),
-        }
+    fn send(&mut self, line: Vec<Stretch>) {
+        line.into_iter().for_each(|stretch| self.reader.hold(stretch));
     }
 }
 
@@ -240,79 +194,9 @@ pub struct Ran {
     pub waveform: Option<Waveform>,
 }
 
-/// A station at work, which asks for the cycles up to the middle or the end of a tag.
-struct Work<'a, C> {
-    plan: &'a Plan,
-    station: &'a mut Station<C>,
-    /// The half tags that come after the steps: of the station's tags, counted from 0, the first half of one where it is even.
-    halves: Range<u128>,
-    /// The tag that was begun and not ended.
-    under_way: Option<UnderWay>,
-    /// What is left of a half tag, and the cycles of it.
-    steps: VecDeque<Step>,
-    cycles: u64,
-    /// The tags that it has read.
-    rows: Vec<Row>,
-}
-
-impl<'a, C: Chips> Work<'a, C> {
-    fn new(plan: &'a Plan, station: &'a mut Station<C>, halves: Range<u128>, under_way: Option<UnderWay>) -> Work<'a, C> {
-        let mut work = Work { plan, station, halves, under_way, steps: VecDeque::new(), cycles: 0, rows: Vec::new() };
-        work.prepare();
-        work
-    }
-
-    /// The steps of the half tag that comes next, where there is one.
-    fn prepare(&mut self) {
-        let Some(half) = self.halves.next() else { return };
-        let (plan, station) = (self.plan, &mut *self.station);
-        let steps = match &mut self.under_way {
-            Some(tag) => station.end_tag(plan, tag),
-            None => {
-                let number = (half / 2) as u64 * plan.stations as u64 + station.number as u64 - 1;
-                let (tag, steps) = station.begin_tag(plan, plan.chosen(number));
-                self.under_way = Some(tag);
-                steps
-            }
-        };
-        self.cycles = steps.iter().map(Step::cycles).sum();
-        self.steps = steps.into();
-    }
-}
-
-impl<C: Chips> Tunnel for Work<'_, C> {
-    fn wish(&self) -> u64 {
-        self.cycles
-    }
-
-    /// The steps over so many cycles, the last one perhaps in part, and those after them that take none. With the last step of a tag
-    /// there is its row, and with that of a half the next one is prepared.
-    fn advance(&mut self, cycles: u64) {
-        self.cycles -= cycles;
-        let mut left = cycles;
-        while let Some(step) = self.steps.pop_front() {
-            match step {
-                Step::Hold(Stretch { rxd, cycles }) if cycles > left => {
-                    self.station.take(Step::Hold(Stretch { rxd, cycles: left }));
-                    self.steps.push_front(Step::Hold(Stretch { rxd, cycles: cycles - left }));
-                    return;
-                }
-                _ => self.station.take(step),
-            }
-            left -= step.cycles();
-        }
-        let ended = self.halves.start % 2 == 0;
-        if let Some(tag) = self.under_way.take_if(|_| ended) {
-            self.rows.push(self.station.row(tag));
-        }
-        self.prepare();
-    }
-}
-
-/// A run under way: what each station is still to be sent, its stations being advanced slice by slice.
+/// A run under way: a tag at a time over all stations.
 pub struct Run<C> {
     pub plan: Plan,
-    pub scheduler: Scheduler,
     pub stations: Vec<Station<C>>,
     /// The tags that were read, in the order in which they were sent.
     pub rows: Vec<Row>,
@@ -320,10 +204,10 @@ pub struct Run<C> {
     pub under_way: Option<UnderWay>,
 }
 
-impl<C: Chips + Send> Run<C> {
-    pub fn new(plan: Plan, scheduler: Scheduler) -> Run<C> {
+impl<C: Chips> Run<C> {
+    pub fn new(plan: Plan) -> Run<C> {
         let stations = (1..=plan.stations).map(|number| Station::new(number, plan.seed)).collect();
-        Run { plan, scheduler, stations, rows: Vec::new(), under_way: None }
+        Run { plan, stations, rows: Vec::new(), under_way: None }
     }
 
     /// Draws a waveform of a station from here on.
@@ -337,49 +221,26 @@ impl<C: Chips + Send> Run<C> {
         self.rows.len() % self.plan.stations
     }
 
-    /// The half tags of the station at a place, where so many tags are read in all and it stands in the middle of the next or not.
-    fn halves(&self, place: usize, tags: u64, in_the_middle: bool) -> u128 {
-        let (places, place) = (self.plan.stations as u64, place as u64);
-        let turn = tags % places;
-        2 * u128::from(tags / places + u64::from(place < turn)) + u128::from(in_the_middle && place == turn)
+    /// Goes on to the middle of the next tag.
+    fn begin_tag(&mut self) -> UnderWay {
+        let (plan, number, turn) = (&self.plan, self.rows.len(), self.turn());
+        let chosen = (!plan.chosen.is_empty()).then(|| &plan.chosen[number % plan.chosen.len()]);
+        self.under_way.take().unwrap_or_else(|| self.stations[turn].begin_tag(plan, chosen))
     }
 
-    /// Advances all stations until so many tags are read in all, and then one to the middle of the next, where it is to stand there.
-    /// Where there are more stations than tunnels of a slice, the first so many are run, and then the next.
-    fn advance(&mut self, tags: u64, to_middle: bool, mut progress: impl FnMut(u64)) {
-        let (from, turn) = (self.rows.len() as u64, self.turn());
-        let halves = |place: usize| self.halves(place, from, self.under_way.is_some())..self.halves(place, tags, to_middle);
-        let halves: Vec<Range<u128>> = (0..self.plan.stations).map(halves).collect();
-        let mut under_way = self.under_way.take();
-        let mut read: Vec<IntoIter<Row>> = Vec::new();
-        let mut done = from;
-        for group in self.stations.chunks_mut(MAX_TUNNELS) {
-            let mut work = Vec::new();
-            for station in group {
-                let place = station.number - 1;
-                work.push(Work::new(&self.plan, station, halves[place].clone(), under_way.take_if(|_| place == turn)));
-            }
-            let rows = |work: &[Work<C>]| work.iter().map(|work| work.rows.len() as u64).sum::<u64>();
-            self.scheduler.run(&mut work, |work| progress(done + rows(work))).expect("a slice and wishes within their limits");
-            done += rows(&work);
-            for Work { under_way, rows, .. } in work {
-                self.under_way = self.under_way.take().or(under_way);
-                read.push(rows.into_iter());
-            }
+    /// Reads tags until there are so many.
+    pub fn read(&mut self, tags: u64, mut progress: impl FnMut(u64)) {
+        while (self.rows.len() as u64) < tags {
+            let tag = self.begin_tag();
+            let turn = self.turn();
+            self.rows.push(self.stations[turn].end_tag(&self.plan, tag));
+            progress(self.rows.len() as u64);
         }
-        let in_turn =
-            (from..tags).map(|number| read[(number % self.plan.stations as u64) as usize].next().expect("a row for each tag"));
-        self.rows.extend(in_turn);
-    }
-
-    /// Reads tags until there are so many. The progress is told how many there are, after each slice.
-    pub fn read(&mut self, tags: u64, progress: impl FnMut(u64)) {
-        self.advance(tags, false, progress);
     }
 
     /// Goes on to the middle of the next tag, and stands there. Gives the station that is reading it.
     pub fn stop_in_a_frame(&mut self) -> &Station<C> {
-        self.advance(self.rows.len() as u64, true, |_| ());
+        self.under_way = Some(self.begin_tag());
         &self.stations[self.turn()]
     }
 
@@ -401,8 +262,8 @@ impl<C: Chips + Send> Run<C> {
 }
 
 /// Runs the plan to its end. One station may draw a waveform.
-pub fn run<C: Chips + Send>(plan: &Plan, scheduler: Scheduler, drawn: Option<usize>, progress: impl FnMut(u64)) -> Ran {
-    let mut run: Run<C> = Run::new(plan.clone(), scheduler);
+pub fn run<C: Chips>(plan: &Plan, drawn: Option<usize>, progress: impl FnMut(u64)) -> Ran {
+    let mut run: Run<C> = Run::new(plan.clone());
     if let Some(number) = drawn {
         run.draw(number);
     }

@@ -5,7 +5,7 @@ use crate::options::{tag, whole, LONGEST_GAP, MOST_STATIONS};
 use crate::reader::{Reader, Received};
 use crate::run::{Plan, Row, Run, Station, UnderWay, WITH_INTERVAL};
 use crate::timing::{Time, Timing};
-use c51::{flag, Board, Counter, Device, Flag, Interval, Jump, Scheduler, Totals};
+use c51::{flag, Board, Counter, Device, Flag, Interval, Jump, Totals};
 use random::Rng;
 use std::fmt::Write;
 use std::io::{self, Read};
@@ -88,8 +88,8 @@ impl Run<Board> {
         text + &format!("{SUM} {sum:016x}\n")
     }
 
-    /// The run of a file, to be gone on with by a scheduler, or what is wrong with it.
-    pub fn load(file: &[u8], scheduler: Scheduler) -> Result<Run<Board>, String> {
+    /// The run of a file, or what is wrong with it.
+    pub fn load(file: &[u8]) -> Result<Run<Board>, String> {
         let first = format!("{NAME} {VERSION}\n");
         if !file.starts_with(NAME.as_bytes()) {
             return Err("it is no saved run of stations".to_string());
@@ -98,7 +98,7 @@ impl Run<Board> {
         }
         let text = std::str::from_utf8(file).ok().and_then(checked);
         let mut lines = Lines { rest: text.ok_or("it is damaged or cut short")?, number: 0 };
-        let run = load_run(&mut lines, scheduler).map_err(|what| format!("line {}: {what}", lines.number))?;
+        let run = load_run(&mut lines).map_err(|what| format!("line {}: {what}", lines.number))?;
         match lines.rest {
             "" => Ok(run),
             _ => Err(format!("line {}: nothing is due any more", lines.number + 1)),
@@ -192,7 +192,7 @@ fn some_of(word: &str) -> Result<Option<u64>, String> {
     (word != NONE).then(|| number_of(word)).transpose()
 }
 
-fn load_run(lines: &mut Lines, scheduler: Scheduler) -> Result<Run<Board>, String> {
+fn load_run(lines: &mut Lines) -> Result<Run<Board>, String> {
     let [_] = lines.some_words(NAME)?;
     let [stations, tags, gap, seed, noise] = lines.some_words("plan")?;
     let longest = LONGEST_GAP as u64 * CYCLES_A_SECOND;
@@ -211,7 +211,7 @@ fn load_run(lines: &mut Lines, scheduler: Scheduler) -> Result<Run<Board>, Strin
     let stations = (1..=plan.stations).map(|number| load_station(lines, number));
     let stations = stations.collect::<Result<Vec<Station<Board>>, String>>()?;
     let under_way = load_under_way(lines)?;
-    Ok(Run { plan, scheduler, stations, rows, under_way: Some(under_way) })
+    Ok(Run { plan, stations, rows, under_way: Some(under_way) })
 }
 
 /// A row, which is of this station.
@@ -329,14 +329,12 @@ fn load_under_way(lines: &mut Lines) -> Result<UnderWay, String> {
 #[cfg(test)]
 mod tests {
     use super::*;
-    use crate::options::scheduler;
     use c51::{address, pcon, CHECKPOINT_52};
 
     /// A run of four stations that stands in the middle of a frame, after so many tags.
     fn after(tags: u64) -> Run<Board> {
         let chosen = vec!["314159265358979".to_string(), "000000000000000".to_string()];
-        let plan = Plan { stations: 4, tags: 9, gap: 5_000, seed: 3, noise: 1, chosen };
-        let mut run = Run::new(plan, scheduler(1_000_000, 1));
+        let mut run = Run::new(Plan { stations: 4, tags: 9, gap: 5_000, seed: 3, noise: 1, chosen });
         run.read(tags, |_| ());
         assert_eq!(run.stop_in_a_frame().number as u64, tags % 4 + 1);
         run
@@ -355,12 +353,8 @@ mod tests {
         text + &format!("sum {sum:016x}\n")
     }
 
-    fn load(file: &[u8]) -> Result<Run<Board>, String> {
-        Run::load(file, scheduler(1_000_000, 1))
-    }
-
     fn fault(file: &str) -> String {
-        load(file.as_bytes()).err().expect("a fault")
+        Run::load(file.as_bytes()).err().expect("a fault")
     }
 
     /// With each station in the middle of a frame, those that have an 82C53 too.
@@ -369,7 +363,7 @@ mod tests {
         for tags in 0..9 {
             let run = after(tags);
             let text = run.save();
-            let loaded = load(text.as_bytes()).expect("a saved run");
+            let loaded = Run::load(text.as_bytes()).expect("a saved run");
             assert_eq!((&loaded.plan, &loaded.rows, &loaded.under_way), (&run.plan, &run.rows, &run.under_way));
             for (a, b) in loaded.stations.iter().zip(&run.stations) {
                 assert_eq!((a.number, a.rng.seed()), (b.number, b.rng.seed()));
@@ -425,7 +419,7 @@ mod tests {
         for at in 0..bytes.len() {
             for byte in [bytes[at] ^ 1, b'0', b' ', b'\n', 0xFF] {
                 let kept = std::mem::replace(&mut bytes[at], byte);
-                assert!(byte == kept || load(&bytes).is_err(), "{byte} at {at}");
+                assert!(byte == kept || Run::load(&bytes).is_err(), "{byte} at {at}");
                 bytes[at] = kept;
             }
         }
@@ -434,7 +428,7 @@ mod tests {
         }
         let chip = under_way().stations[2].reader.chips.device.save().unwrap();
         for foreign in [&b""[..], b"\n", b"station,cycle,seconds\n", &chip, &[0xFF; 1000]] {
-            assert_eq!(load(foreign).err().as_deref(), Some("it is no saved run of stations"));
+            assert_eq!(Run::load(foreign).err().as_deref(), Some("it is no saved run of stations"));
         }
         assert!(fault(&text.replacen("run 2\n", "run 1\n", 1)).starts_with("it is a saved run of another version than 2"));
     }

@@ -1,7 +1,6 @@
 //! Runs that are saved in the middle of a frame and gone on from: the same tags, cycle numbers, laps, rounds and CSV as without the move;
 //! what is in the file; files that are refused; and that a save which fails leaves the old file.
 use c51::{Board, Device, CHECKPOINT_52};
-use station::options::scheduler;
 use station::run::Run;
 use std::fs;
 use std::path::{Path, PathBuf};
@@ -122,7 +121,7 @@ fn a_run_is_saved_in_the_middle_of_a_frame() {
             }
             with_votes += u32::from(receive.position > 0 && (7..9).contains(&receive.counter));
         }
-        let run: Run<Board> = Run::load(&fs::read(&file).unwrap(), scheduler(1, 1)).expect("a saved run");
+        let run: Run<Board> = Run::load(&fs::read(&file).unwrap()).expect("a saved run");
         assert_eq!(run.stations.iter().map(|station| station.reader.chips.device).collect::<Vec<Device>>(), chips);
         assert_eq!((run.rows.len(), run.under_way.is_some()), (after, true));
     }

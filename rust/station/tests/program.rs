@@ -37,7 +37,7 @@ fn eleven_stations_read_what_was_sent() {
     assert_eq!(out.lines().last(), Some(summary.as_str()));
     assert_eq!(out.lines().count(), 1 + 22 + 1 + 11 + 2);
     let progress = text(&ran.stderr);
-    assert!(progress.starts_with("11 of 22 tags,") && progress.contains("\n22 of 22 tags,"), "{progress}");
+    assert!(progress.starts_with("3 of 22 tags,") && progress.contains("\n22 of 22 tags,"), "{progress}");
 }
 
 #[test]

@@ -1,9 +1,8 @@
-//! The soak: random lists and raw records, of both chips, with checkpoints among them, speeds and shares, through the library and the
-//! model for as long as wanted.
+//! The soak: random lists and raw records, of both chips, with checkpoints among them, and speeds, through the library and the model for
+//! as long as wanted.
 use compare::files::Loads;
 use compare::lists::{run_list, run_record, script, styles};
 use compare::pair::{Pair, Tally};
-use compare::shares::{self, compare_shares, places, shares_call};
 use compare::speeds::{compare_speed, speed_call, Outcomes};
 use compare::STAGE;
 use random::Rng;
@@ -11,18 +10,17 @@ use std::path::PathBuf;
 use std::process::exit;
 use std::time::{Duration, Instant, SystemTime, UNIX_EPOCH};
 
-const USAGE: &str = "usage: soak [--cycles N] [--records N] [--speeds N] [--shares N] [--seed S]
+const USAGE: &str = "usage: soak [--cycles N] [--records N] [--speeds N] [--seed S]
   --cycles N   cycles of mixed lists to compare (1000000000)
   --records N  boards of raw records to compare, every call on each (10000000)
   --speeds N   calls for a speed to compare (1000000)
-  --shares N   calls for shares of a slice to compare (1000000)
   --seed S     the seed (taken from the clock)
   --help       print this";
 
 const LINES: u64 = 2_000;
 const LISTS_A_SCRIPT: u64 = 200;
 const LIST_LENGTH: u64 = 50;
-/// Records, speeds and shares at a time.
+/// Records and speeds at a time.
 const AT_A_TIME: u64 = 1_000;
 const PROGRESS: Duration = Duration::from_secs(5);
 
@@ -30,20 +28,18 @@ struct Options {
     cycles: u64,
     records: u64,
     speeds: u64,
-    shares: u64,
     seed: u64,
 }
 
 /// The options, or none where help is asked for.
 fn options(mut words: impl Iterator<Item = String>) -> Result<Option<Options>, String> {
     let clock = SystemTime::now().duration_since(UNIX_EPOCH).map_or(0, |time| time.as_secs());
-    let mut options = Options { cycles: 1_000_000_000, records: 10_000_000, speeds: 1_000_000, shares: 1_000_000, seed: clock };
+    let mut options = Options { cycles: 1_000_000_000, records: 10_000_000, speeds: 1_000_000, seed: clock };
     while let Some(word) = words.next() {
         let place = match word.as_str() {
             "--cycles" => &mut options.cycles,
             "--records" => &mut options.records,
             "--speeds" => &mut options.speeds,
-            "--shares" => &mut options.shares,
             "--seed" => &mut options.seed,
             "--help" => return Ok(None),
             _ => return Err(format!("unknown option {word}")),
@@ -61,7 +57,6 @@ struct Soak {
     records: u64,
     on_records: Tally,
     speeds: Outcomes,
-    shares: shares::Outcomes,
     start: Instant,
     shown: Instant,
 }
@@ -72,7 +67,7 @@ impl Soak {
             self.shown = Instant::now();
             let (lists, options) = (self.lists, &self.options);
             eprintln!(
-                "{:6} s: {} of {} cycles in {} calls, {} of {} records, {} of {} speeds, {} of {} shares",
+                "{:6} s: {} of {} cycles in {} calls, {} of {} records, {} of {} speeds",
                 self.start.elapsed().as_secs(),
                 lists.cycles,
                 options.cycles,
@@ -80,9 +75,7 @@ impl Soak {
                 self.records,
                 options.records,
                 self.speeds.calls(),
-                options.speeds,
-                self.shares.calls(),
-                options.shares
+                options.speeds
             );
         }
     }
@@ -130,19 +123,6 @@ impl Soak {
         }
         Ok(())
     }
-
-    fn run_shares(&mut self) -> Result<(), String> {
-        let mut rng = Rng::part(!self.options.seed, u64::MAX);
-        while self.shares.calls() < self.options.shares {
-            for _ in 0..AT_A_TIME.min(self.options.shares - self.shares.calls()) {
-                let call = shares_call(&mut rng);
-                let (code, output) = compare_shares(&call, places(&mut rng, &call))?;
-                self.shares.add(&call, code, &output);
-            }
-            self.show();
-        }
-        Ok(())
-    }
 }
 
 /// The model's generator, which cargo builds beside this program.
@@ -164,17 +144,14 @@ fn main() {
         records: 0,
         on_records: Tally::default(),
         speeds: Outcomes::default(),
-        shares: shares::Outcomes::default(),
         start: now,
         shown: now,
     };
-    let ran = soak.run_speeds().and_then(|()| soak.run_shares()).and_then(|()| soak.run_records()).and_then(|()| soak.run_lists());
-    if let Err(what) = ran {
+    if let Err(what) = soak.run_speeds().and_then(|()| soak.run_records()).and_then(|()| soak.run_lists()) {
         println!("{what}");
         exit(1);
     }
     let Outcomes { found, none, refused } = soak.speeds;
-    let shares::Outcomes { used_up, filled, bad_tunnels, bad_wish } = soak.shares;
     let mut total = soak.on_records;
     total += soak.lists;
     let [timer0, timer1, timer2] = total.overflowed;
@@ -182,8 +159,7 @@ fn main() {
     println!(
         "{} raw records in {} calls, {} cycles of lists in {} calls, runs with overflows of Timers 0, 1, 2: {timer0}, {timer1}, \
          {timer2}; jumps of one round and of more: {}, {}; {} saves, loads passed and refused by 15, 16, 17: {passed}, {bad_length}, \
-         {bad_layout}, {bad_value}; {} speeds ({found} found, {none} none, {refused} refused), {} shares ({used_up} of a slice \
-         used up, {filled} filled, {bad_tunnels} and {bad_wish} refused by 18 and 19), {} s: no difference",
+         {bad_layout}, {bad_value}; {} speeds ({found} found, {none} none, {refused} refused), {} s: no difference",
         soak.records,
         soak.on_records.calls,
         soak.lists.cycles,
@@ -192,7 +168,6 @@ fn main() {
         total.of_more_rounds,
         total.saved,
         soak.speeds.calls(),
-        soak.shares.calls(),
         soak.start.elapsed().as_secs()
     );
 }
