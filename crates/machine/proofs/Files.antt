@@ -1,5 +1,5 @@
 -- The cards of the checkpoint (specs/Files.antt) hold, by computation.
-use Rattle.std.specs.Prelude.{◌≡◌, refl, List, [], ◌++◌}
+use Rattle.std.specs.Prelude.{◌≡◌, refl, [], ◌++◌}
 use Rattle.machine.specs.Registers.{table, implemented_in, implemented}
 use Rattle.machine.specs.Times.{pairs_ok, never}
 use Rattle.machine.specs.Record.{registers, hidden_fields, accepted, blank, zeros}

@@ -1,11 +1,9 @@
 -- Cards of the checkpoint (document 02, request Eight): a file byte by byte, what it loads as, and every refusal. They hold by
 -- computation (proofs/Files.antt).
-use Rattle.std.specs.Prelude.{ℕ, ◌+◌, ◌-◌, ◌*◌, ◌≡◌, refl, cond, List, [], ◌∷◌, ◌++◌, eqb, length, take, set, replicate}
+use Rattle.std.specs.Prelude.{ℕ, ◌+◌, ◌-◌, ◌*◌, cond, List, [], ◌∷◌, ◌++◌, eqb, length, take, set, replicate}
 use Rattle.machine.specs.declared.Device.{Device}
-use Rattle.machine.specs.Registers.{table, implemented_in, implemented}
-use Rattle.machine.specs.Times.{pairs_ok, never}
-use Rattle.machine.specs.Record.{registers, hidden_fields, accepted, blank, zeros}
-use Rattle.machine.specs.Checkpoint.{bytes_of, number_of, times_listed, values_of, device_with, joined, section, register_entries, number_entries, time_entries, layout, written, file_of, save_fault, save_answer, holds, judged, read_part, read_parts, finished, load_answer}
+use Rattle.machine.specs.Record.{zeros}
+use Rattle.machine.specs.Checkpoint.{values_of, file_of, save_answer, load_answer}
 use Rattle.machine.specs.Same.{same}
 use Rattle.machine.specs.Cards.{failing_by}
 

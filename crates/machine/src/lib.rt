@@ -1,5 +1,7 @@
 // The types of the plain machine: the device record and its parts, what a step hands on, and the answers of the calls.
 // What the chip does is said in specs/, a file for each section of document 01.
+#![tactic(auto)]
+
 pub mod places;
 pub mod refusals;
 
