@@ -1,8 +1,7 @@
 -- Cards of the speed finder: crystal, rate and tolerance, and the answer, worked out by the definition. One table with one proof.
 use Rattle.std.specs.Prelude.{ℕ, ◌≡◌, refl, cond, List, [], ◌∷◌}
 use Rattle.machine.specs.Same.{same}
-use Rattle.baud.specs.declared.SpeedAnswer.{SpeedAnswer}
-use Rattle.baud.specs.declared.SpeedAnswer.TheVariants.{Refused, Found, Nothing}
+use Rattle.baud.specs.Answers.{SpeedAnswer, Refused, Found, Nothing}
 use Rattle.baud.specs.Speed.{allowed, rate_of, at_most, away, within, as_near, pair_at, every, fits, cut_down, first_from, search, speed}
 
 record Row : Type 0 where

@@ -3,8 +3,7 @@ use Rattle.std.specs.Prelude.{ℕ, zero, suc, ◌+◌, ◌-◌, ◌*◌, ◌/◌
 use Rattle.machine.specs.Calls.{unless}
 use Rattle.baud.specs.declared.Pair.{Pair}
 use Rattle.baud.specs.declared.Fraction.{Fraction}
-use Rattle.baud.specs.declared.SpeedAnswer.{SpeedAnswer}
-use Rattle.baud.specs.declared.SpeedAnswer.TheVariants.{Refused, Found, Nothing}
+use Rattle.baud.specs.Answers.{SpeedAnswer, Refused, Found, Nothing}
 
 -- the limits: crystal in hertz, rate in bits a second, tolerance in hundredths of a percent
 unfoldable pub allowed : ℕ → ℕ → ℕ → Bool

@@ -15,10 +15,10 @@ pub struct Fraction {
     pub denominator: u64,
 }
 
-// The answer: the refusal's number; the pair, with the rate that it achieves in whole bits a second; or that there is none.
+// A pair that is found, with the rate that it achieves in whole bits a second.
 #[derive(Clone, Copy)]
-pub enum SpeedAnswer {
-    Refused(u8),
-    Found { smod: u8, th1: u8, achieved: u64 },
-    Nothing,
+pub struct Setting {
+    pub smod: u8,
+    pub th1: u8,
+    pub achieved: u64,
 }

@@ -1,4 +1,5 @@
 pub mod Joined
+pub mod Outcomes
 pub mod PowerDown
 pub mod Promises
 pub mod Refused

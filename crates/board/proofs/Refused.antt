@@ -6,8 +6,7 @@ use Rattle.machine.specs.Totals.{no_totals}
 use Rattle.machine.specs.Calls.{longest}
 use Rattle.machine.proofs.Choices.{chosen}
 use Rattle.board.specs.declared.Board.{Board}
-use Rattle.board.specs.declared.BoardCycleAnswer.{BoardCycleAnswer}
-use Rattle.board.specs.declared.BoardJumpAnswer.{BoardJumpAnswer}
+use Rattle.board.specs.Answers.{BoardCycleAnswer, BoardJumpAnswer}
 use Rattle.board.specs.Board.{accepted, bytes_ok, cycle_answer, jump_answer}
 
 module _ (b : Board) (pins gates : ℕ) where

@@ -14,8 +14,7 @@ use Rattle.machine.specs.declared.Totals.{Totals}
 use Rattle.interval.specs.Interval.{outputs, gates_ok, pulse_all}
 use Rattle.interval.specs.Interval as Interval
 use Rattle.board.specs.declared.Board.{Board}
-use Rattle.board.specs.declared.BoardCycleAnswer.{BoardCycleAnswer}
-use Rattle.board.specs.declared.BoardJumpAnswer.{BoardJumpAnswer}
+use Rattle.board.specs.Answers.{BoardCycleAnswer, BoardJumpAnswer}
 
 -- a record that refusal 1 does not meet
 unfoldable pub accepted : Board → Bool

@@ -1,4 +1,6 @@
+pub mod Answers
 pub mod Board
+pub mod Outcomes
 pub mod Lists
 pub mod PowerDown
 pub mod Joined

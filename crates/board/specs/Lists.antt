@@ -9,8 +9,7 @@ use Rattle.interval.specs.Lists as Timer
 use Rattle.machine.specs.declared.Device.{Device}
 use Rattle.interval.specs.declared.Interval.{Interval}
 use Rattle.board.specs.declared.Board.{Board}
-use Rattle.board.specs.declared.BoardCycleAnswer.{BoardCycleAnswer}
-use Rattle.board.specs.declared.BoardJumpAnswer.{BoardJumpAnswer}
+use Rattle.board.specs.Answers.{BoardCycleAnswer, BoardJumpAnswer}
 use Rattle.board.specs.Board.{cycle_answer, jump_answer}
 
 -- a call of the chip, one of the 82C53, and a cycle or a jump of both

@@ -3,11 +3,13 @@
 #![tactic(auto)]
 
 ghost use Rattle.std.specs.Prelude.{◌≡◌};
+ghost use Rattle.machine.specs.Outcomes.{number};
 ghost use Rattle.board.specs.Board as Plain;
+ghost use Rattle.board.specs.Outcomes.{cycle_answered, jump_answered};
 ghost use Rattle.board.specs.Joined as Joined;
 
 use interval::Interval;
-use machine::refusals::PASSED;
+use machine::refusals::Refusal;
 use machine::{Device, Totals};
 
 // The record of both chips.
@@ -18,115 +20,68 @@ pub struct Board {
     pub interval: Interval,
 }
 
-// The answer of a cycle: 0, the output line and the outputs of the 82C53, or the refusal's number and zeros; and the board.
+// What a cycle gives: the output line and the outputs of the 82C53.
 #[derive(Clone, Copy)]
-pub struct BoardCycleAnswer {
-    pub code: u8,
+pub struct BoardCycled {
     pub line: u8,
     pub outputs: u8,
-    pub board: Board,
 }
 
-// The answer of a jump: 0, the outputs of the 82C53, the chip's overflow totals and its rounds, or the refusal's number and zeros; and the
-// board.
+// What a jump gives: the outputs of the 82C53, the chip's overflow totals and its rounds.
 #[derive(Clone, Copy)]
-pub struct BoardJumpAnswer {
-    pub code: u8,
+pub struct BoardJumped {
     pub outputs: u8,
     pub totals: Totals,
     pub rounds: u64,
-    pub board: Board,
 }
 
-// A refused call.
-fn refuse_cycle(code: u8, b: Board) -> BoardCycleAnswer
-    ensures { result ≡ Plain.refuse_cycle code b }
+// Of two refusals the one with the lower number.
+fn lower(x: Refusal, y: Refusal) -> Refusal
+    ensures { number result ≡ Joined.lower (number x) (number y) }
 {
-    BoardCycleAnswer {
-        code: code,
-        line: 0,
-        outputs: 0,
-        board: b,
-    }
+    if x.number() < y.number() { x } else { y }
 }
 
-fn refuse_jump(code: u8, b: Board) -> BoardJumpAnswer
-    ensures { result ≡ Plain.refuse_jump code b }
+// A cycle of the chip and a pulse of the 82C53, both on a copy, so that a refusal of either leaves both as they were.
+pub fn cycle(b: &mut Board, pins: u8, gates: u8) -> Result<BoardCycled, Refusal>
+    ensures { cycle_answered result b.new ≡ Plain.cycle_answer b.old pins gates }
 {
-    BoardJumpAnswer {
-        code: code,
-        outputs: 0,
-        totals: totals::none(),
-        rounds: 0,
-        board: b,
-    }
-}
-
-// The lower of two refusals; the other one's number where a chip passes.
-fn lower(x: u8, y: u8) -> u8
-    ensures { result ≡ Joined.lower x y }
-{
-    if x == PASSED {
-        return y;
-    }
-    if y == PASSED {
-        return x;
-    }
-    laws::picked(x < y, x, y)
-}
-
-// A cycle of the chip and a pulse of the 82C53.
-pub fn cycle(b: Board, pins: u8, gates: u8) -> BoardCycleAnswer
-    ensures { result ≡ Plain.cycle_answer b pins gates }
-{
-    let device = b.device;
-    let interval = b.interval;
-    let cycled = c51_run::cycle(device, pins);
-    let pulsed = c53::pulse(interval, gates);
-    let code = lower(cycled.code, pulsed.code);
-    if code != PASSED {
-        return refuse_cycle(code, b);
-    }
-    let cycled_device = cycled.device;
-    let pulsed_interval = pulsed.interval;
-    BoardCycleAnswer {
-        code: PASSED,
-        line: cycled.line,
-        outputs: pulsed.outputs,
-        board: Board {
-            device: cycled_device,
-            interval: pulsed_interval,
-        },
+    let mut next = *b;
+    let cycled = c51_run::cycle(&mut next.device, pins);
+    let pulsed = c53::pulse(&mut next.interval, gates);
+    match (cycled, pulsed) {
+        (Ok(line), Ok(outputs)) => {
+            *b = next;
+            Ok(BoardCycled { line, outputs })
+        }
+        (Err(e), Ok(_)) => Err(e),
+        (Ok(_), Err(f)) => Err(f),
+        (Err(e), Err(f)) => Err(lower(e, f)),
     }
 }
 
 // n cycles of the chip beside n pulses of the 82C53, each by its own jump. Where the 82C53 refuses, the chip is judged by a jump of
 // no cycles.
-pub fn jump(b: Board, pins: u8, gates: u8, n: u64) -> BoardJumpAnswer
-    ensures { result ≡ Plain.jump_answer b pins gates n }
+pub fn jump(b: &mut Board, pins: u8, gates: u8, n: u64) -> Result<BoardJumped, Refusal>
+    ensures { jump_answered result b.new ≡ Plain.jump_answer b.old pins gates n }
 {
-    let device = b.device;
-    let interval = b.interval;
-    let pulsed = c53::jump(interval, gates, n);
-    if pulsed.code != PASSED {
-        let judged = c51_run::jump(device, pins, 0);
-        return refuse_jump(lower(judged.code, pulsed.code), b);
-    }
-    let jumped = c51_run::jump(device, pins, n);
-    if jumped.code != PASSED {
-        return refuse_jump(jumped.code, b);
-    }
-    let totals = jumped.totals;
-    let jumped_device = jumped.device;
-    let pulsed_interval = pulsed.interval;
-    BoardJumpAnswer {
-        code: PASSED,
-        outputs: pulsed.outputs,
-        totals: totals,
-        rounds: jumped.rounds,
-        board: Board {
-            device: jumped_device,
-            interval: pulsed_interval,
-        },
+    let mut interval = b.interval;
+    match c53::jump(&mut interval, gates, n) {
+        Ok(outputs) => {
+            let jumped = c51_run::jump(&mut b.device, pins, n)?;
+            b.interval = interval;
+            Ok(BoardJumped {
+                outputs,
+                totals: jumped.totals,
+                rounds: jumped.rounds,
+            })
+        }
+        Err(e) => {
+            let mut device = b.device;
+            match c51_run::jump(&mut device, pins, 0) {
+                Ok(_) => Err(e),
+                Err(f) => Err(lower(f, e)),
+            }
+        }
     }
 }

@@ -1,20 +1,22 @@
 -- A whole list of calls on a board against the plain board of document 02, request Three: any calls of the chip and of the 82C53, and
 -- cycles and jumps of both, as demand 3 is of the chip alone. No promise is written out here: `Learnt` is what the check reads off a
 -- function's contract, and what a caller of it learns.
-use Rattle.std.specs.Prelude.{ℕ, ◌≡◌, List, [], ◌∷◌, map}
+use Rattle.std.specs.Prelude.{ℕ, ◌≡◌, List, [], ◌∷◌, map, Result}
+use base.Fml.{Lft}
+use Rattle.std.specs.Borrow.{MutBor}
+use Rattle.machine.specs.declared.refusals.Refusal.{Refusal}
 use Rattle.machine.specs.declared.Device.{Device}
 use Rattle.machine.specs.declared.Answer.{Answer}
 use Rattle.machine.specs.Lists.{Reply, says}
 use Rattle.machine.specs.Lists as Chip
 use Rattle.interval.specs.declared.Interval.{Interval}
-use Rattle.interval.specs.declared.WriteAnswer.{WriteAnswer}
-use Rattle.interval.specs.declared.ReadAnswer.{ReadAnswer}
-use Rattle.interval.specs.declared.PulseAnswer.{PulseAnswer}
 use Rattle.interval.specs.Lists.{Played, played, ran, reply_of_write, reply_of_read, reply_of_pulse}
 use Rattle.interval.specs.Lists as Timer
 use Rattle.board.specs.declared.Board.{Board}
-use Rattle.board.specs.declared.BoardCycleAnswer.{BoardCycleAnswer}
-use Rattle.board.specs.declared.BoardJumpAnswer.{BoardJumpAnswer}
+use Rattle.board.specs.declared.BoardCycled.{BoardCycled}
+use Rattle.board.specs.declared.BoardJumped.{BoardJumped}
+use Rattle.board.specs.Outcomes.{cycle_answered, jump_answered}
+use Rattle.interval.specs.Outcomes.{write_answered, read_answered, pulse_answered}
 use Rattle.board.specs.Lists.{Call, board, reply_of_cycle, reply_of_jump, run, machine}
 use Rattle.lists.specs.Demand3 as OfChip
 use Rattle.c53.proofs.reset.Reads as reset-reads
@@ -30,18 +32,18 @@ pub data KeptTimer : Timer.Call → Interval → Played Interval → Type 0 wher
   reset : {c r : Interval}
       → reset-reads.Learnt tt tt r tt
       → KeptTimer Timer.Call.reset c (played (says 0 Chip.nothing) r)
-  write : {a v : ℕ} {c : Interval} {r : WriteAnswer}
-      → write-reads.Learnt tt (c, (a, (v, tt))) r (c, (a, (v, tt)))
-      → KeptTimer (Timer.Call.write a v) c (played (reply_of_write r) r.interval)
-  read : {a : ℕ} {c : Interval} {r : ReadAnswer}
-      → read-reads.Learnt tt (c, (a, tt)) r (c, (a, tt))
-      → KeptTimer (Timer.Call.read a) c (played (reply_of_read r) r.interval)
-  pulse : {gates : ℕ} {c : Interval} {r : PulseAnswer}
-      → pulse-reads.Learnt tt (c, (gates, tt)) r (c, (gates, tt))
-      → KeptTimer (Timer.Call.pulse gates) c (played (reply_of_pulse r) r.interval)
-  jump : {gates n : ℕ} {c : Interval} {r : PulseAnswer}
-      → jump-reads.Learnt tt (c, (gates, (n, tt))) r (c, (gates, (n, tt)))
-      → KeptTimer (Timer.Call.jump gates n) c (played (reply_of_pulse r) r.interval)
+  write : (κ : Lft) (c d : MutBor Interval) {a v : ℕ} (r : Result (Unit {0}) Refusal)
+      → write-reads.Learnt (κ, tt) (c, (a, (v, tt))) r (d, (a, (v, tt)))
+      → KeptTimer (Timer.Call.write a v) c.now (played (reply_of_write (write_answered r d.now)) d.now)
+  read : (κ : Lft) (c d : MutBor Interval) {a : ℕ} (r : Result ℕ Refusal)
+      → read-reads.Learnt (κ, tt) (c, (a, tt)) r (d, (a, tt))
+      → KeptTimer (Timer.Call.read a) c.now (played (reply_of_read (read_answered r d.now)) d.now)
+  pulse : (κ : Lft) (c d : MutBor Interval) {gates : ℕ} (r : Result ℕ Refusal)
+      → pulse-reads.Learnt (κ, tt) (c, (gates, tt)) r (d, (gates, tt))
+      → KeptTimer (Timer.Call.pulse gates) c.now (played (reply_of_pulse (pulse_answered r d.now)) d.now)
+  jump : (κ : Lft) (c d : MutBor Interval) {gates n : ℕ} (r : Result ℕ Refusal)
+      → jump-reads.Learnt (κ, tt) (c, (gates, (n, tt))) r (d, (gates, (n, tt)))
+      → KeptTimer (Timer.Call.jump gates n) c.now (played (reply_of_pulse (pulse_answered r d.now)) d.now)
 
 -- A call on the board: one of the chip is kept as demand 3 has it; a chip's own call leaves the other chip as it is
 pub data Kept : Call → Board → Played Board → Type 0 where
@@ -51,12 +53,12 @@ pub data Kept : Call → Board → Played Board → Type 0 where
   timer : {c : Timer.Call} {d : Device} {i : Interval} {p : Played Interval}
       → KeptTimer c i p
       → Kept (Call.timer c) (board d i) (played p.reply (board d p.state))
-  cycle : {pins gates : ℕ} {b : Board} {r : BoardCycleAnswer}
-      → board-cycle-reads.Learnt tt (b, (pins, (gates, tt))) r (b, (pins, (gates, tt)))
-      → Kept (Call.cycle pins gates) b (played (reply_of_cycle r) r.board)
-  jump : {pins gates n : ℕ} {b : Board} {r : BoardJumpAnswer}
-      → board-jump-reads.Learnt tt (b, (pins, (gates, (n, tt)))) r (b, (pins, (gates, (n, tt))))
-      → Kept (Call.jump pins gates n) b (played (reply_of_jump r) r.board)
+  cycle : (κ : Lft) (b c : MutBor Board) {pins gates : ℕ} (r : Result BoardCycled Refusal)
+      → board-cycle-reads.Learnt (κ, tt) (b, (pins, (gates, tt))) r (c, (pins, (gates, tt)))
+      → Kept (Call.cycle pins gates) b.now (played (reply_of_cycle (cycle_answered r c.now)) c.now)
+  jump : (κ : Lft) (b c : MutBor Board) {pins gates n : ℕ} (r : Result BoardJumped Refusal)
+      → board-jump-reads.Learnt (κ, tt) (b, (pins, (gates, (n, tt)))) r (c, (pins, (gates, (n, tt))))
+      → Kept (Call.jump pins gates n) b.now (played (reply_of_jump (jump_answered r c.now)) c.now)
 
 -- A list of calls, each on the board as the one before left it: all replies, and the board at the end
 pub data Chained : List Call → Board → List Reply → Board → Type 0 where
@@ -68,12 +70,12 @@ pub data Chained : List Call → Board → List Reply → Board → Type 0 where
 pub record AsksNothing : Type 0 where
   pub chip : OfChip.AsksNothing
   pub resets : reset-reads.Asked tt tt
-  pub writes : (c : Interval) (a v : ℕ) → write-reads.Asked tt (c, (a, (v, tt)))
-  pub reads : (c : Interval) (a : ℕ) → read-reads.Asked tt (c, (a, tt))
-  pub pulses : (c : Interval) (gates : ℕ) → pulse-reads.Asked tt (c, (gates, tt))
-  pub jumps : (c : Interval) (gates n : ℕ) → jump-reads.Asked tt (c, (gates, (n, tt)))
-  pub board_cycles : (b : Board) (pins gates : ℕ) → board-cycle-reads.Asked tt (b, (pins, (gates, tt)))
-  pub board_jumps : (b : Board) (pins gates n : ℕ) → board-jump-reads.Asked tt (b, (pins, (gates, (n, tt))))
+  pub writes : (κ : Lft) (c : MutBor Interval) (a v : ℕ) → write-reads.Asked (κ, tt) (c, (a, (v, tt)))
+  pub reads : (κ : Lft) (c : MutBor Interval) (a : ℕ) → read-reads.Asked (κ, tt) (c, (a, tt))
+  pub pulses : (κ : Lft) (c : MutBor Interval) (gates : ℕ) → pulse-reads.Asked (κ, tt) (c, (gates, tt))
+  pub jumps : (κ : Lft) (c : MutBor Interval) (gates n : ℕ) → jump-reads.Asked (κ, tt) (c, (gates, (n, tt)))
+  pub board_cycles : (κ : Lft) (b : MutBor Board) (pins gates : ℕ) → board-cycle-reads.Asked (κ, tt) (b, (pins, (gates, tt)))
+  pub board_jumps : (κ : Lft) (b : MutBor Board) (pins gates n : ℕ) → board-jump-reads.Asked (κ, tt) (b, (pins, (gates, (n, tt))))
 
 -- Demand 3 of the board
 pub record Boards : Type 0 where

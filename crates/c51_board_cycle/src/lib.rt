@@ -7,7 +7,7 @@ ghost use Rattle.board.specs.Board as Both;
 
 use board::Board;
 
-// The code of a board's cycle, the output line and the outputs of the 82C53.
+// The code of a board's cycle, the output line and the outputs of the 82C53. C has no Result: 0 or the number, and zeros.
 #[repr(C)]
 #[derive(Clone, Copy)]
 pub struct BoardAnswer {
@@ -21,11 +21,16 @@ pub struct BoardAnswer {
 pub extern "C" fn c51_board_cycle(b: &mut Board, pins: u8, gates: u8) -> BoardAnswer
     ensures { (result.code ≡ (Both.cycle_answer b.old pins gates).code) × ((result.line ≡ (Both.cycle_answer b.old pins gates).line) × ((result.outputs ≡ (Both.cycle_answer b.old pins gates).outputs) × (b.new ≡ (Both.cycle_answer b.old pins gates).board))) }
 {
-    let cycled = board::cycle(*b, pins, gates);
-    *b = cycled.board;
-    BoardAnswer {
-        code: cycled.code,
-        line: cycled.line,
-        outputs: cycled.outputs,
+    match board::cycle(b, pins, gates) {
+        Ok(cycled) => BoardAnswer {
+            code: 0,
+            line: cycled.line,
+            outputs: cycled.outputs,
+        },
+        Err(e) => BoardAnswer {
+            code: e.number(),
+            line: 0,
+            outputs: 0,
+        },
     }
 }

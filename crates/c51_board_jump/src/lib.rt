@@ -8,7 +8,8 @@ ghost use Rattle.board.specs.Board as Both;
 use board::Board;
 use machine::Totals;
 
-// The code of a board's jump, the outputs of the 82C53, the chip's overflow totals, and its rounds.
+// The code of a board's jump, the outputs of the 82C53, the chip's overflow totals, and its rounds. C has no Result: 0 or the
+// number, and zeros.
 #[repr(C)]
 #[derive(Clone, Copy)]
 pub struct BoardJumped {
@@ -23,12 +24,18 @@ pub struct BoardJumped {
 pub extern "C" fn c51_board_jump(b: &mut Board, pins: u8, gates: u8, n: u64) -> BoardJumped
     ensures { (result.code ≡ (Both.jump_answer b.old pins gates n).code) × ((result.outputs ≡ (Both.jump_answer b.old pins gates n).outputs) × ((result.totals ≡ (Both.jump_answer b.old pins gates n).totals) × ((result.rounds ≡ (Both.jump_answer b.old pins gates n).rounds) × (b.new ≡ (Both.jump_answer b.old pins gates n).board)))) }
 {
-    let moved = board::jump(*b, pins, gates, n);
-    *b = moved.board;
-    BoardJumped {
-        code: moved.code,
-        outputs: moved.outputs,
-        totals: moved.totals,
-        rounds: moved.rounds,
+    match board::jump(b, pins, gates, n) {
+        Ok(moved) => BoardJumped {
+            code: 0,
+            outputs: moved.outputs,
+            totals: moved.totals,
+            rounds: moved.rounds,
+        },
+        Err(e) => BoardJumped {
+            code: e.number(),
+            outputs: 0,
+            totals: totals::none(),
+            rounds: 0,
+        },
     }
 }

@@ -9,17 +9,19 @@ use lib.ListN.{length, drop, drop_of_length-le}
 use lib.Seq.{drop-cons}
 use borrow.Author.Tests.{eqb-true, eq-eqb, ne_eqb}
 use Rattle.machine.specs.declared.Device.{Device}
+use Rattle.machine.specs.declared.refusals.Refusal.{Refusal}
+use Rattle.machine.specs.Outcomes.{number}
 use Rattle.machine.specs.Record.{accepted, zeros}
 use Rattle.machine.specs.Calls.{passed, refuse}
 use Rattle.machine.specs.Checkpoint.{values_of, file_of, save_fault, save_answer, kind_in, finished, load_answer, device_with}
-use Rattle.machine.specs.Checkpoint.Reading.{reading}
+use Rattle.machine.specs.Checkpoint.Reading.{reading, faulty}
 use Rattle.machine.proofs.Choices.{by_test}
+use Rattle.machine.proofs.Outcomes.{number_not_0}
 use Rattle.record.proofs.Accepted.{ranges_of}
 use Rattle.layout.specs.Order.{length_of}
 use Rattle.layout.proofs.Order.{Kind, file_long}
 use Rattle.checkpoint.specs.declared.Reading.{Reading}
 use Rattle.values.specs.Values.{cut}
-use Rattle.checkpoint.specs.Reads.{state_of}
 use Rattle.checkpoint.proofs.Steps.{all}
 use Rattle.checkpoint.proofs.Loaded.{kind_read, loaded_made}
 
@@ -62,18 +64,20 @@ module _ (d : Device) (size : ℕ) where
       (λ bad. let e : 1 ≡ 0 = rw bad at z in absurd (omega arith))
 
 -- what it leaves
-module _ (d : Device) (buffer : List ℕ) (fault : ℕ) (e : fault ≡ save_fault d (length buffer)) where
-  pub save_refused : (fault ≡ 0 → ⊥) → (fault ≡ (save_answer d buffer).code) × (buffer ≡ (save_answer d buffer).buffer)
+module _ (d : Device) (buffer : List ℕ) where
+  pub save_refused : (e : Refusal) → number e ≡ save_fault d (length buffer)
+      → (number e ≡ (save_answer d buffer).code) × (buffer ≡ (save_answer d buffer).buffer)
   unfolding save_answer
-  save_refused f =
-      let n = ne_eqb (save_fault d (length buffer)) 0 (λ z. f (e ∙ z)) in
-      (e, rw n)
+  save_refused e f =
+      let n : eqb (save_fault d (length buffer)) 0 ≡ false = rw f at (number_not_0 e) in
+      (f, rw n)
 
-  pub save_passed : fault ≡ 0 → (after : List ℕ) → after ≡ file_of d → (0 ≡ (save_answer d buffer).code) × (after ≡ (save_answer d buffer).buffer)
+  pub save_passed : 0 ≡ save_fault d (length buffer) → (after : List ℕ) → after ≡ file_of d
+      → (0 ≡ (save_answer d buffer).code) × (after ≡ (save_answer d buffer).buffer)
   unfolding save_answer
   save_passed z after w =
-      let n = eq-eqb (save_fault d (length buffer)) 0 (sym e ∙ z) in
-      (sym z ∙ e, rw n w)
+      let n = eq-eqb (save_fault d (length buffer)) 0 (sym z) in
+      (z, rw n w)
 
 -- the same of the machine's answer: where it is 0 the buffer is the file, and it is so for an accepted record and a buffer of its length
 pub saved_file : (d : Device) (buffer : List ℕ) → (save_answer d buffer).code ≡ 0 → (save_answer d buffer).buffer ≡ file_of d
@@ -90,29 +94,22 @@ save_ready d buffer ok same = rw (ok, eq-eqb (length buffer) (length (file_of d)
 
 -- a load
 
-module _ (file : List ℕ) (r : Reading) (e : state_of file r ≡ all (kind_in file) file) (h : r.at ≤ length file) where
-  answered : finished (kind_in file) (state_of file r) ≡ load_answer file
-  unfolding load_answer
-  answered = ap (finished (kind_in file)) e
+-- by what the file is read as
+module _ (file : List ℕ) where
+  pub load_faulty : (e : Refusal) → faulty (number e) ≡ all (kind_in file) file → refuse (number e) zeros ≡ load_answer file
+  unfolding load_answer finished
+  load_faulty e f = ap (finished (kind_in file)) f
 
-  pub load_faulty : (r.code ≡ 0 → ⊥) → refuse r.code zeros ≡ load_answer file
-  unfolding state_of finished
-  load_faulty f = rw (ne_eqb r.code 0 f) at answered
-
-  module _ (z : r.code ≡ 0) where
-    state : state_of file r ≡ reading r.values (drop r.at file)
-    unfolding state_of
-    state = rw (eq-eqb r.code 0 z)
-
+  module _ (r : Reading) (e : reading r.values (drop r.at file) ≡ all (kind_in file) file) where
     pub load_over : r.at < length file → refuse 15 zeros ≡ load_answer file
-    unfolding finished
+    unfolding load_answer finished
     load_over l =
-        let s = state ∙ ap (reading r.values) (drop-cons file r.at 0 l) in
-        sym (ap (finished (kind_in file)) s) ∙ answered
+        let over = ap (reading r.values) (drop-cons file r.at 0 l) in
+        ap (finished (kind_in file)) (sym over ∙ e)
 
     pub load_whole : length file ≤ r.at → passed (device_with (kind_in file) (cut r.values)) ≡ load_answer file
-    unfolding finished
+    unfolding load_answer finished
     load_whole l =
-        let s = state ∙ ap (reading r.values) (drop_of_length-le file l) in
-        ap passed (loaded_made (kind_in file) (kind_read file) file r.values [] (sym e ∙ s))
-        ∙ (sym (ap (finished (kind_in file)) s) ∙ answered)
+        let whole = ap (reading r.values) (drop_of_length-le file l) in
+        ap passed (loaded_made (kind_in file) (kind_read file) file r.values [] (sym e ∙ whole))
+        ∙ ap (finished (kind_in file)) (sym whole ∙ e)

@@ -7,7 +7,7 @@ ghost use Rattle.machine.specs.Calls as Machine;
 
 use machine::Device;
 
-// A cycle's code and the output line as it leaves it.
+// A cycle's code and the output line as it leaves it. C has no Result: 0 or the number, and zeros.
 #[repr(C)]
 #[derive(Clone, Copy)]
 pub struct LineAnswer {
@@ -20,10 +20,14 @@ pub struct LineAnswer {
 pub extern "C" fn c51_cycle(d: &mut Device, pins: u8) -> LineAnswer
     ensures { (result.code ≡ (Machine.cycle_answer d.old pins).code) × ((result.line ≡ (Machine.cycle_answer d.old pins).line) × (d.new ≡ (Machine.cycle_answer d.old pins).device)) }
 {
-    let cycled = c51_run::cycle(*d, pins);
-    *d = cycled.device;
-    LineAnswer {
-        code: cycled.code,
-        line: cycled.line,
+    match c51_run::cycle(d, pins) {
+        Ok(line) => LineAnswer {
+            code: 0,
+            line: line,
+        },
+        Err(e) => LineAnswer {
+            code: e.number(),
+            line: 0,
+        },
     }
 }

@@ -1,73 +1,61 @@
-// The public calls of the interrupt controller: what is offered, its take and the return. Each answers what the plain machine answers,
+// The public calls of the interrupt controller: what is offered, its take and the return. Each gives what the plain machine answers,
 // on every record: its refusals in their order, and then the call. Nothing else is exported.
 #![tactic(auto)]
 
 ghost use Rattle.std.specs.Prelude.{◌≡◌};
 ghost use Rattle.machine.specs.Calls as Machine;
+ghost use Rattle.machine.specs.Outcomes.{answered, take_answered, offer_answered};
 ghost use Rattle.machine.specs.Lists.{Call, play, reply_of_offer};
 
-use answers::{passed, refuse, refuse_take};
+use machine::Device;
 use machine::places::IDL;
-use machine::refusals::{BAD_RECORD, NOTHING_IN_SERVICE, NOTHING_OFFERED, PASSED, POWERED_DOWN};
-use machine::{Answer, Device, OfferAnswer, TakeAnswer};
+use machine::refusals::Refusal;
 
 // The vector offered, or nothing.
-pub fn offer(d: Device) -> OfferAnswer
-    ensures { (result ≡ Machine.offer_answer d) × (reply_of_offer result ≡ (play Call.offer d).reply) }
+#[tactic(auto, unfolding(machine::specs::Calls::offer_answer, machine::specs::Calls::offer_of, machine::specs::Lists::play))]
+pub fn offer(d: Device) -> Result<Option<u8>, Refusal>
+    ensures { (offer_answered result ≡ Machine.offer_answer d) × (reply_of_offer (offer_answered result) ≡ (play Call.offer d).reply) }
 {
     if !record::accepts(d) {
-        return OfferAnswer::Refused(BAD_RECORD);
+        return Err(Refusal::BadRecord);
     }
-    let source = interrupts::offered(d.pcon, d.interrupts);
-    if source >= interrupts::NONE {
-        return OfferAnswer::Nothing;
-    }
-    OfferAnswer::Vector(interrupts::vector_of(source))
+    Ok(interrupts::offered(d.pcon, d.interrupts).map(interrupts::vector_of))
 }
 
 // Take what is offered, which ends idle.
-pub fn take(d: Device) -> TakeAnswer
-    ensures { result ≡ Machine.take_answer d }
+#[tactic(auto, using(laws::proofs::Bits::clear_bit_lem), unfolding(machine::specs::Calls::take_answer, machine::specs::Calls::take_of))]
+pub fn take(d: &mut Device) -> Result<u8, Refusal>
+    ensures { take_answered result d.new ≡ Machine.take_answer d.old }
 {
-    if !record::accepts(d) {
-        return refuse_take(BAD_RECORD, d);
+    if !record::accepts(*d) {
+        return Err(Refusal::BadRecord);
     }
+    // In power-down 10 goes before 6.
     if laws::powered_down(d.pcon) {
-        return refuse_take(POWERED_DOWN, d);
+        return Err(Refusal::PoweredDown);
     }
-    let source = interrupts::offered(d.pcon, d.interrupts);
-    if source >= interrupts::NONE {
-        return refuse_take(NOTHING_OFFERED, d);
-    }
-    let vector = interrupts::vector_of(source);
-    let i = interrupts::in_service(source, d.interrupts);
-    let tcon = interrupts::taken(source, d.timers.tcon);
-    let mut e = d;
-    e.pcon = d.pcon & !(1 << IDL);
-    e.timers.tcon = tcon;
-    e.interrupts = i;
-    TakeAnswer {
-        code: PASSED,
-        vector: vector,
-        device: e,
-    }
+    let source = interrupts::offered(d.pcon, d.interrupts).ok_or(Refusal::NothingOffered)?;
+    d.pcon &= !(1 << IDL);
+    d.timers.tcon = interrupts::taken(source, d.timers.tcon);
+    d.interrupts = interrupts::in_service(source, d.interrupts);
+    Ok(interrupts::vector_of(source))
 }
 
 // Return from an interrupt (RETI).
-pub fn reti(d: Device) -> Answer
-    ensures { result ≡ Machine.return_answer d }
+#[tactic(auto, unfolding(machine::specs::Calls::return_answer))]
+pub fn reti(d: &mut Device) -> Result<(), Refusal>
+    ensures { answered result d.new ≡ Machine.return_answer d.old }
 {
-    if !record::accepts(d) {
-        return refuse(BAD_RECORD, d);
+    if !record::accepts(*d) {
+        return Err(Refusal::BadRecord);
     }
+    // In power-down 10 goes before 7.
     if laws::powered_down(d.pcon) {
-        return refuse(POWERED_DOWN, d);
+        return Err(Refusal::PoweredDown);
     }
     if interrupts::none_in_service(d.interrupts) {
-        return refuse(NOTHING_IN_SERVICE, d);
+        return Err(Refusal::NothingInService);
     }
-    let i = interrupts::returned(d.interrupts);
-    let mut e = d;
-    e.interrupts = i;
-    passed(e)
+    d.interrupts = interrupts::returned(d.interrupts);
+    Ok(())
 }

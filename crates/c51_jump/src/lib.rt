@@ -7,7 +7,7 @@ ghost use Rattle.machine.specs.Calls as Machine;
 
 use machine::{Device, Totals};
 
-// A jump's code, its overflow totals and its rounds.
+// A jump's code, its overflow totals and its rounds. C has no Result: 0 or the number, and zeros.
 #[repr(C)]
 #[derive(Clone, Copy)]
 pub struct Jumped {
@@ -21,11 +21,16 @@ pub struct Jumped {
 pub extern "C" fn c51_jump(d: &mut Device, pins: u8, n: u64) -> Jumped
     ensures { (result.code ≡ (Machine.jump_answer d.old pins n).code) × ((result.totals ≡ (Machine.jump_answer d.old pins n).totals) × ((result.rounds ≡ (Machine.jump_answer d.old pins n).rounds) × (d.new ≡ (Machine.jump_answer d.old pins n).device))) }
 {
-    let jumped = c51_run::jump(*d, pins, n);
-    *d = jumped.device;
-    Jumped {
-        code: jumped.code,
-        totals: jumped.totals,
-        rounds: jumped.rounds,
+    match c51_run::jump(d, pins, n) {
+        Ok(j) => Jumped {
+            code: 0,
+            totals: j.totals,
+            rounds: j.rounds,
+        },
+        Err(e) => Jumped {
+            code: e.number(),
+            totals: totals::none(),
+            rounds: 0,
+        },
     }
 }

@@ -2,8 +2,7 @@
 use Rattle.std.specs.Prelude.{ℕ, cond}
 use Rattle.machine.specs.declared.Device.{Device}
 use Rattle.machine.specs.Record.{accepted}
-use Rattle.baud.specs.declared.SpeedAnswer.{SpeedAnswer}
-use Rattle.baud.specs.declared.SpeedAnswer.TheVariants as Speed
+use Rattle.baud.specs.Answers.{SpeedAnswer, SpeedAnswer as Speed}
 use Rattle.baud.specs.Speed.{speed}
 use Rattle.c51_lent.specs.declared.FoundAnswer.{FoundAnswer}
 

@@ -10,9 +10,11 @@ ghost use Rattle.lists.specs.Script.{script, Replayed};
 ghost use Rattle.slices.specs.Shares as Slice;
 ghost use Rattle.c51_lent.specs.Answers as Numbers;
 
+use machine::refusals::code_of;
 use machine::{Answer, Device};
 
-// The speed finder's code, 1 where there is a pair (`found` in c51.h), its SMOD and TH1, and the rate that it achieves.
+// The speed finder's code, 1 where there is a pair (`found` in c51.h), its SMOD and TH1, and the rate that it achieves. C has no
+// Result: 0 or the number, and zeros.
 #[repr(C)]
 #[derive(Clone, Copy)]
 pub struct FoundAnswer {
@@ -37,7 +39,9 @@ pub extern "C" fn c51_replay(d: &mut Device, calls: &[u64], lent: &[u32], answer
 pub extern "C" fn c51_reset(kind: u8) -> Answer
     ensures { result ≡ Machine.reset_answer kind }
 {
-    c51_access::reset(kind)
+    let mut d = record::zeros();
+    let code = code_of(c51_access::reset(&mut d, kind));
+    Answer { code, device: d }
 }
 
 // 1 where the record is accepted.
@@ -46,7 +50,7 @@ pub extern "C" fn c51_reset(kind: u8) -> Answer
 pub extern "C" fn c51_accepts(d: Device) -> u8
     ensures { result ≡ Numbers.accepts_answer d }
 {
-    if record::accepts(d) { 1 } else { 0 }
+    u8::from(record::accepts(d))
 }
 
 // SMOD and TH1 of Timer 1 for a crystal, a rate and a tolerance, or none: 14.
@@ -55,28 +59,23 @@ pub extern "C" fn c51_accepts(d: Device) -> u8
 pub extern "C" fn c51_speed(crystal: u64, rate: u64, tolerance: u64) -> FoundAnswer
     ensures { result ≡ Numbers.found_answer crystal rate tolerance }
 {
-    let a = speed::speed(crystal, rate, tolerance);
-    match a {
-        baud::SpeedAnswer::Refused(k) => FoundAnswer {
-            code: k,
+    match speed::speed(crystal, rate, tolerance) {
+        Ok(Some(setting)) => FoundAnswer {
+            code: 0,
+            pair: 1,
+            smod: setting.smod,
+            th1: setting.th1,
+            achieved: setting.achieved,
+        },
+        Ok(None) => FoundAnswer {
+            code: 0,
             pair: 0,
             smod: 0,
             th1: 0,
             achieved: 0,
         },
-        baud::SpeedAnswer::Found {
-            smod,
-            th1,
-            achieved,
-        } => FoundAnswer {
-            code: 0,
-            pair: 1,
-            smod: smod,
-            th1: th1,
-            achieved: achieved,
-        },
-        baud::SpeedAnswer::Nothing => FoundAnswer {
-            code: 0,
+        Err(e) => FoundAnswer {
+            code: e.number(),
             pair: 0,
             smod: 0,
             th1: 0,
@@ -91,5 +90,5 @@ pub extern "C" fn c51_speed(crystal: u64, rate: u64, tolerance: u64) -> FoundAns
 pub extern "C" fn c51_shares(b: u64, wishes: &[u64], output: &mut [u64]) -> u8
     ensures { (result ≡ (Slice.shares_answer b wishes.now output.old).code) × (output.new ≡ (Slice.shares_answer b wishes.now output.old).output) }
 {
-    shares::shares(b, wishes, output)
+    code_of(shares::shares(b, wishes, output))
 }

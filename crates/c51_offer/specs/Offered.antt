@@ -1,7 +1,6 @@
 -- An offer's answer as numbers for C: 1 and the vector, or 0 and 0; a refused call gives its number and zeros.
 use Rattle.machine.specs.declared.Device.{Device}
-use Rattle.machine.specs.declared.OfferAnswer.{OfferAnswer}
-use Rattle.machine.specs.declared.OfferAnswer.TheVariants as Offer
+use Rattle.machine.specs.Answers.{OfferAnswer, OfferAnswer as Offer}
 use Rattle.machine.specs.Calls.{offer_answer}
 use Rattle.c51_offer.specs.declared.OfferedAnswer.{OfferedAnswer}
 

@@ -7,7 +7,7 @@ ghost use Rattle.c51_offer.specs.Offered.{offered_answer};
 
 use machine::Device;
 
-// An offer's code, 1 where an interrupt is offered, and its vector.
+// An offer's code, 1 where an interrupt is offered, and its vector. C has no Result: 0 or the number, and zeros.
 #[repr(C)]
 #[derive(Clone, Copy)]
 pub struct OfferedAnswer {
@@ -22,20 +22,19 @@ pub struct OfferedAnswer {
 pub extern "C" fn c51_offer(d: Device) -> OfferedAnswer
     ensures { result ≡ offered_answer d }
 {
-    let a = c51_interrupt::offer(d);
-    match a {
-        machine::OfferAnswer::Refused(k) => OfferedAnswer {
-            code: k,
+    match c51_interrupt::offer(d) {
+        Ok(Some(vector)) => OfferedAnswer {
+            code: 0,
+            offered: 1,
+            vector,
+        },
+        Ok(None) => OfferedAnswer {
+            code: 0,
             offered: 0,
             vector: 0,
         },
-        machine::OfferAnswer::Vector(v) => OfferedAnswer {
-            code: 0,
-            offered: 1,
-            vector: v,
-        },
-        machine::OfferAnswer::Nothing => OfferedAnswer {
-            code: 0,
+        Err(e) => OfferedAnswer {
+            code: e.number(),
             offered: 0,
             vector: 0,
         },

@@ -1,8 +1,7 @@
 -- A read's answer as numbers for C: a refused call gives its number and 0.
 use Rattle.std.specs.Prelude.{ℕ}
 use Rattle.machine.specs.declared.Device.{Device}
-use Rattle.machine.specs.declared.ReadAnswer.{ReadAnswer}
-use Rattle.machine.specs.declared.ReadAnswer.TheVariants as Read
+use Rattle.machine.specs.Answers.{ReadAnswer, ReadAnswer as Read}
 use Rattle.machine.specs.Calls.{read_answer}
 use Rattle.c51_read.specs.declared.ValueAnswer.{ValueAnswer}
 

@@ -7,7 +7,7 @@ ghost use Rattle.c51_read.specs.Value.{value_answer};
 
 use machine::Device;
 
-// A read's code and the register.
+// A read's code and the register. C has no Result: 0 or the number, and zeros.
 #[repr(C)]
 #[derive(Clone, Copy)]
 pub struct ValueAnswer {
@@ -21,9 +21,11 @@ pub struct ValueAnswer {
 pub extern "C" fn c51_read(d: Device, address: u8) -> ValueAnswer
     ensures { result ≡ value_answer d address }
 {
-    let a = c51_access::read(d, address);
-    match a {
-        machine::ReadAnswer::Refused(k) => ValueAnswer { code: k, value: 0 },
-        machine::ReadAnswer::Value(v) => ValueAnswer { code: 0, value: v },
+    match c51_access::read(d, address) {
+        Ok(value) => ValueAnswer { code: 0, value },
+        Err(e) => ValueAnswer {
+            code: e.number(),
+            value: 0,
+        },
     }
 }

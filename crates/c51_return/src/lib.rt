@@ -6,13 +6,12 @@ ghost use Rattle.std.specs.Prelude.{◌≡◌};
 ghost use Rattle.machine.specs.Calls as Machine;
 
 use machine::Device;
+use machine::refusals::code_of;
 
 // Return from an interrupt (RETI): 1, 10, 7.
 #[unsafe(no_mangle)]
 pub extern "C" fn c51_return(d: &mut Device) -> u8
     ensures { (result ≡ (Machine.return_answer d.old).code) × (d.new ≡ (Machine.return_answer d.old).device) }
 {
-    let returned = c51_interrupt::reti(*d);
-    *d = returned.device;
-    returned.code
+    code_of(c51_interrupt::reti(d))
 }

@@ -1,104 +1,101 @@
-// The public calls in which time passes. Each answers what the plain machine answers, on every record, pin byte, length and trace:
-// its refusals in their order, and then the call. Nothing else is exported.
+// The public calls in which time passes. Each gives what the plain machine answers, on every record, pin byte, length and trace: its
+// refusals in their order, and then the call. A refused call leaves the device as it was. Nothing else is exported.
 #![tactic(auto)]
 
 ghost use Rattle.std.specs.Prelude.{◌≡◌};
 ghost use Rattle.machine.specs.Calls as Machine;
 ghost use Rattle.machine.specs.Lists.{Call, play, reply_of_look};
+ghost use Rattle.machine.specs.Outcomes.{code_of, cycle_answered, jump_answered, run_answered, look_answered};
 
-use answers::{
-    passed_cycle, passed_jump, passed_run, pins_ok, refuse_cycle, refuse_jump, refuse_run,
-};
+use answers::pins_ok;
 use cycle::Run;
-use machine::refusals::{BAD_PINS, BAD_RECORD, PASSED, TOO_LONG};
-use machine::{CycleAnswer, Device, JumpAnswer, LONGEST, LookAnswer, RunAnswer};
+use machine::refusals::Refusal;
+use machine::{Device, Jumped, LONGEST, Totals};
 
 // One machine cycle with a pin byte, and the output line as it leaves it; in power-down the device stays as it is.
-pub fn cycle(d: Device, pins: u8) -> CycleAnswer
-    ensures { result ≡ Machine.cycle_answer d pins }
+#[tactic(auto, unfolding(machine::specs::Calls::cycle_answer))]
+pub fn cycle(d: &mut Device, pins: u8) -> Result<u8, Refusal>
+    ensures { cycle_answered result d.new ≡ Machine.cycle_answer d.old pins }
 {
-    if !record::accepts(d) {
-        return refuse_cycle(BAD_RECORD, d);
+    if !record::accepts(*d) {
+        return Err(Refusal::BadRecord);
     }
     if !pins_ok(pins) {
-        return refuse_cycle(BAD_PINS, d);
+        return Err(Refusal::BadPins);
     }
     if laws::powered_down(d.pcon) {
-        return passed_cycle(d);
+        return Ok(serial::line_of(d.serial));
     }
     let from = Run {
         totals: totals::none(),
-        device: d,
+        device: *d,
     };
     let r = cycle::cycle_once(from, cycle::pins_of(d.kind, pins));
-    passed_cycle(r.device)
+    *d = r.device;
+    Ok(serial::line_of(d.serial))
 }
 
-// The number by which n cycles with one pin byte are refused, of a jump and of a look, or 0.
-fn cycles_fault(d: Device, pins: u8, n: u64) -> u8
-    ensures { result ≡ Machine.cycles_fault d pins n }
+// Whether n cycles with one pin byte may be made, in a jump and in a look.
+#[tactic(auto, unfolding(machine::specs::Calls::cycles_fault))]
+fn judged(d: Device, pins: u8, n: u64) -> Result<(), Refusal>
+    ensures { code_of result ≡ Machine.cycles_fault d pins n }
 {
     if !record::accepts(d) {
-        return BAD_RECORD;
+        return Err(Refusal::BadRecord);
     }
     if !pins_ok(pins) {
-        return BAD_PINS;
+        return Err(Refusal::BadPins);
     }
     if n > LONGEST {
-        return TOO_LONG;
+        return Err(Refusal::TooLong);
     }
-    PASSED
+    Ok(())
 }
 
 // A jump of n cycles with one pin byte, the overflows in them, and the rounds that they took.
-pub fn jump(d: Device, pins: u8, n: u64) -> JumpAnswer
-    ensures { result ≡ Machine.jump_answer d pins n }
+pub fn jump(d: &mut Device, pins: u8, n: u64) -> Result<Jumped, Refusal>
+    ensures { jump_answered result d.new ≡ Machine.jump_answer d.old pins n }
 {
-    let bad = cycles_fault(d, pins, n);
-    if bad != PASSED {
-        return refuse_jump(bad, d);
-    }
+    judged(*d, pins, n)?;
     let from = Run {
         totals: totals::none(),
-        device: d,
+        device: *d,
     };
     let r = jump::advance(from, cycle::pins_of(d.kind, pins), n);
-    passed_jump(r.run.totals, r.rounds, r.run.device)
+    *d = r.run.device;
+    Ok(Jumped {
+        totals: r.run.totals,
+        rounds: r.rounds,
+    })
 }
 
 // A trace run, each entry a pin byte on top and cycles in the low 24 bits; the entries are judged whole, in an order of their own.
-pub fn trace(d: Device, entries: &[u32]) -> RunAnswer
-    ensures { result ≡ Machine.trace_answer d entries.now }
+#[tactic(auto, unfolding(machine::specs::Calls::trace_answer))]
+pub fn trace(d: &mut Device, entries: &[u32]) -> Result<Totals, Refusal>
+    ensures { run_answered result d.new ≡ Machine.trace_answer d.old entries.now }
 {
-    if !record::accepts(d) {
-        return refuse_run(BAD_RECORD, d);
+    if !record::accepts(*d) {
+        return Err(Refusal::BadRecord);
     }
-    let fault = traces::trace_fault(entries);
-    if fault != PASSED {
-        return refuse_run(fault, d);
-    }
-    let r = traces::run_entries(d, entries);
-    passed_run(r.totals, r.device)
+    traces::trace_fault(entries)?;
+    let r = traces::run_entries(*d, entries);
+    *d = r.device;
+    Ok(r.totals)
 }
 
 // A look ahead over n cycles with one pin byte: the first in which a flag rises, or none.
-pub fn look(d: Device, pins: u8, n: u64) -> LookAnswer
-    ensures { (result ≡ Machine.look_answer d pins n) × (reply_of_look result ≡ (play (Call.look pins n) d).reply) }
+pub fn look(d: Device, pins: u8, n: u64) -> Result<Option<u64>, Refusal>
+    ensures { (look_answered result ≡ Machine.look_answer d pins n) × (reply_of_look (look_answered result) ≡ (play (Call.look pins n) d).reply) }
 {
-    let bad = cycles_fault(d, pins, n);
-    if bad != PASSED {
-        return LookAnswer::Refused(bad);
-    }
-    looks::first_rise(d, cycle::pins_of(d.kind, pins), n)
+    judged(d, pins, n)?;
+    Ok(looks::first_rise(d, cycle::pins_of(d.kind, pins), n))
 }
 
-// A wake look over n cycles with one pin byte: the first k from 0 to n after which an interrupt is offered, or none.
-pub fn wake(d: Device, pins: u8, n: u64) -> LookAnswer
-    ensures { (result ≡ Machine.wake_answer d pins n) × (reply_of_look result ≡ (play (Call.wake pins n) d).reply) }
+// A wake look over n cycles with one pin byte: the first k from 0 to n after which an interrupt is offered, or none. A call of its own, as
+// the machine has it.
+pub fn wake(d: Device, pins: u8, n: u64) -> Result<Option<u64>, Refusal>
+    ensures { (look_answered result ≡ Machine.wake_answer d pins n) × (reply_of_look (look_answered result) ≡ (play (Call.wake pins n) d).reply) }
 {
-    let bad = cycles_fault(d, pins, n);
-    if bad != PASSED {
-        return LookAnswer::Refused(bad);
-    }
-    looks::first_offer(d, cycle::pins_of(d.kind, pins), n)
+    judged(d, pins, n)?;
+    Ok(looks::first_offer(d, cycle::pins_of(d.kind, pins), n))
 }

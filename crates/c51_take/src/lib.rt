@@ -7,7 +7,7 @@ ghost use Rattle.machine.specs.Calls as Machine;
 
 use machine::Device;
 
-// A take's code and the vector.
+// A take's code and the vector. C has no Result: 0 or the number, and zeros.
 #[repr(C)]
 #[derive(Clone, Copy)]
 pub struct VectorAnswer {
@@ -20,10 +20,11 @@ pub struct VectorAnswer {
 pub extern "C" fn c51_take(d: &mut Device) -> VectorAnswer
     ensures { (result.code ≡ (Machine.take_answer d.old).code) × ((result.vector ≡ (Machine.take_answer d.old).vector) × (d.new ≡ (Machine.take_answer d.old).device)) }
 {
-    let taken = c51_interrupt::take(*d);
-    *d = taken.device;
-    VectorAnswer {
-        code: taken.code,
-        vector: taken.vector,
+    match c51_interrupt::take(d) {
+        Ok(vector) => VectorAnswer { code: 0, vector },
+        Err(e) => VectorAnswer {
+            code: e.number(),
+            vector: 0,
+        },
     }
 }

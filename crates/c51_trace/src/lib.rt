@@ -7,7 +7,7 @@ ghost use Rattle.machine.specs.Calls as Machine;
 
 use machine::{Device, Totals};
 
-// A trace run's code and its overflow totals.
+// A trace run's code and its overflow totals. C has no Result: 0 or the number, and zeros.
 #[repr(C)]
 #[derive(Clone, Copy)]
 pub struct Traced {
@@ -20,10 +20,11 @@ pub struct Traced {
 pub extern "C" fn c51_trace(d: &mut Device, entries: &[u32]) -> Traced
     ensures { (result.code ≡ (Machine.trace_answer d.old entries.now).code) × ((result.totals ≡ (Machine.trace_answer d.old entries.now).totals) × (d.new ≡ (Machine.trace_answer d.old entries.now).device)) }
 {
-    let ran = c51_run::trace(*d, entries);
-    *d = ran.device;
-    Traced {
-        code: ran.code,
-        totals: ran.totals,
+    match c51_run::trace(d, entries) {
+        Ok(t) => Traced { code: 0, totals: t },
+        Err(e) => Traced {
+            code: e.number(),
+            totals: totals::none(),
+        },
     }
 }

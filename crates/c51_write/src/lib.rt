@@ -6,13 +6,12 @@ ghost use Rattle.std.specs.Prelude.{◌≡◌};
 ghost use Rattle.machine.specs.Calls as Machine;
 
 use machine::Device;
+use machine::refusals::code_of;
 
 // Write a register's implemented bits: 1, 10, 3.
 #[unsafe(no_mangle)]
 pub extern "C" fn c51_write(d: &mut Device, address: u8, value: u8) -> u8
     ensures { (result ≡ (Machine.write_answer d.old address value).code) × (d.new ≡ (Machine.write_answer d.old address value).device) }
 {
-    let written = c51_access::write(*d, address, value);
-    *d = written.device;
-    written.code
+    code_of(c51_access::write(d, address, value))
 }

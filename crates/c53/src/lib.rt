@@ -1,20 +1,24 @@
-// The public calls of the 82C53. Each answers what the plain 82C53 answers, on every record, address, byte, gate byte and length: its
-// refusals in their order, and then the call. Nothing else is exported.
+// The public calls of the 82C53. Each gives what the plain 82C53 answers, on every record, address, byte, gate byte and length: its
+// refusals in their order, and then the call. A refused call leaves the chip as it was. Nothing else is exported.
 #![tactic(auto)]
 
-ghost use Rattle.std.specs.Prelude.{◌≡◌};
+ghost use Rattle.std.specs.Prelude.{◌≡◌, ◌<◌};
+ghost use Rattle.std.specs.Borrow.{sem};
 ghost use Rattle.interval.specs.Interval as Plain;
 ghost use Rattle.interval.specs.Calls as Calls;
+ghost use Rattle.interval.specs.Outcomes.{write_answered, read_answered, pulse_answered};
+ghost use Rattle.c53.specs.Lending.{LendsCounter};
 
-use interval::{Counter, CounterAnswer, Interval, PulseAnswer, ReadAnswer, WriteAnswer};
+use interval::{Counter, Interval};
 use interval_counter::{BOTH, SC, control, counter_ok, fresh, read_byte, write_byte};
 use machine::LONGEST;
-use machine::refusals::{BAD_CHOICE, BAD_PINS, BAD_RECORD, PASSED, TOO_LONG};
+use machine::refusals::Refusal;
 
 // The address of the control word.
 const CONTROL: u8 = 3;
 
 // The record check: each field of each counter within its range.
+#[tactic(auto, unfolding(interval::specs::Interval::accepted))]
 pub fn accepts(c: Interval) -> bool
     ensures { result ≡ Plain.accepted c }
 {
@@ -22,6 +26,7 @@ pub fn accepts(c: Interval) -> bool
 }
 
 // The outputs, bits 0 to 2.
+#[tactic(auto, unfolding(interval::specs::Interval::outputs))]
 pub fn outputs(c: Interval) -> u8
     ensures { result ≡ Plain.outputs c }
 {
@@ -29,75 +34,22 @@ pub fn outputs(c: Interval) -> u8
 }
 
 // The counter of a choice, 0 to 2.
-fn counter_at(i: u8, c: Interval) -> Counter
-    ensures { result ≡ Plain.counter_at i c }
+#[tactic(auto, unfolding(interval::specs::Interval::counter_at, interval::specs::Interval::put_at))]
+fn counter_mut(c: &mut Interval, i: u8) -> &mut Counter
+    requires { i < 3 }
+    ensures* puts_back { sem 𝓛 (LendsCounter i c.entry result) }
+    ensures chosen { result.now ≡ Plain.counter_at i c.old }
 {
-    if i == 0 {
-        c.counter0
-    } else if i == 1 {
-        c.counter1
-    } else {
-        c.counter2
-    }
-}
-
-// That counter changed.
-fn put_at(i: u8, k: Counter, c: Interval) -> Interval
-    ensures { result ≡ Plain.put_at i k c }
-{
-    let mut put = c;
-    if i == 0 {
-        put.counter0 = k;
-    } else if i == 1 {
-        put.counter1 = k;
-    } else if i == 2 {
-        put.counter2 = k;
-    }
-    put
-}
-
-// A refused write, read and pulse.
-fn refuse_write(code: u8, c: Interval) -> WriteAnswer
-    ensures { result ≡ Calls.refuse_write code c }
-{
-    WriteAnswer {
-        code: code,
-        interval: c,
-    }
-}
-
-fn refuse_read(code: u8, c: Interval) -> ReadAnswer
-    ensures { result ≡ Calls.refuse_read code c }
-{
-    ReadAnswer {
-        code: code,
-        value: 0,
-        interval: c,
-    }
-}
-
-fn refuse_pulse(code: u8, c: Interval) -> PulseAnswer
-    ensures { result ≡ Calls.refuse_pulse code c }
-{
-    PulseAnswer {
-        code: code,
-        outputs: 0,
-        interval: c,
-    }
-}
-
-// A pulse that passed: the outputs as it leaves them.
-fn passed_pulse(c: Interval) -> PulseAnswer
-    ensures { result ≡ Calls.passed_pulse c }
-{
-    PulseAnswer {
-        code: PASSED,
-        outputs: outputs(c),
-        interval: c,
+    // A number: two bits of the control word, or an address, choose a counter.
+    match i {
+        0 => &mut c.counter0,
+        1 => &mut c.counter1,
+        _ => &mut c.counter2,
     }
 }
 
 // Reset.
+#[tactic(auto, unfolding(interval::specs::Interval::reset_of))]
 pub fn reset() -> Interval
     ensures { result ≡ Plain.reset_of }
 {
@@ -109,97 +61,89 @@ pub fn reset() -> Interval
     }
 }
 
-// A counter's answer, put in its place; where it is refused, the chip as given.
-fn answered(i: u8, r: CounterAnswer, c: Interval) -> WriteAnswer
-    ensures { result ≡ Calls.answered i r c }
-{
-    if r.code != PASSED {
-        return refuse_write(r.code, c);
-    }
-    WriteAnswer {
-        code: PASSED,
-        interval: put_at(i, r.counter, c),
-    }
-}
-
 // A control word: 12 for counter choice 3, before 11 for another mode.
-fn control_answer(word: u8, c: Interval) -> WriteAnswer
-    ensures { result ≡ Calls.control_answer word c }
+#[tactic(auto, using(machine::proofs::Outcomes::number_not_0, interval::proofs::Outcomes::put_back), unfolding(interval::specs::Calls::control_answer, interval::specs::Calls::answered))]
+fn write_control(c: &mut Interval, word: u8) -> Result<(), Refusal>
+    ensures { write_answered result c.new ≡ Calls.control_answer word c.old }
 {
     let choice = word >> SC;
     if choice >= 3 {
-        return refuse_write(BAD_CHOICE, c);
+        return Err(Refusal::BadChoice);
     }
-    answered(choice, control(word, counter_at(choice, c)), c)
+    let k = counter_mut(c, choice);
+    *k = control(word, *k)?;
+    Ok(())
 }
 
 // Write a byte of a count at 0 to 2, the control word at 3.
-pub fn write(c: Interval, address: u8, byte: u8) -> WriteAnswer
-    ensures { result ≡ Calls.write_answer c address byte }
+#[tactic(auto, using(machine::proofs::Outcomes::number_not_0, interval::proofs::Outcomes::put_back), unfolding(interval::specs::Calls::write_answer, interval::specs::Calls::answered))]
+pub fn write(c: &mut Interval, address: u8, byte: u8) -> Result<(), Refusal>
+    ensures { write_answered result c.new ≡ Calls.write_answer c.old address byte }
 {
-    if !accepts(c) {
-        return refuse_write(BAD_RECORD, c);
+    if !accepts(*c) {
+        return Err(Refusal::BadRecord);
     }
     if address > CONTROL {
-        return refuse_write(BAD_CHOICE, c);
+        return Err(Refusal::BadChoice);
     }
     if address == CONTROL {
-        return control_answer(byte, c);
+        return write_control(c, byte);
     }
-    answered(address, write_byte(byte, counter_at(address, c)), c)
+    let k = counter_mut(c, address);
+    *k = write_byte(byte, *k)?;
+    Ok(())
 }
 
 // Read a byte of a count at 0 to 2: of the latch, or of the count as it stands.
-pub fn read(c: Interval, address: u8) -> ReadAnswer
-    ensures { result ≡ Calls.read_answer c address }
+#[tactic(auto, using(interval::proofs::Ranges::ok_at), unfolding(interval::specs::Calls::read_answer))]
+pub fn read(c: &mut Interval, address: u8) -> Result<u8, Refusal>
+    ensures { read_answered result c.new ≡ Calls.read_answer c.old address }
 {
-    if !accepts(c) {
-        return refuse_read(BAD_RECORD, c);
+    if !accepts(*c) {
+        return Err(Refusal::BadRecord);
     }
     if address >= CONTROL {
-        return refuse_read(BAD_CHOICE, c);
+        return Err(Refusal::BadChoice);
     }
-    let byte = read_byte(counter_at(address, c));
-    ReadAnswer {
-        code: PASSED,
-        value: byte.value,
-        interval: put_at(address, byte.counter, c),
-    }
+    let k = counter_mut(c, address);
+    let byte = read_byte(*k);
+    *k = byte.counter;
+    Ok(byte.value)
 }
 
-// One pulse with a gate byte.
-pub fn pulse(c: Interval, gates: u8) -> PulseAnswer
-    ensures { result ≡ Calls.pulse_answer c gates }
+// One pulse with a gate byte; it gives the outputs as it leaves them.
+#[tactic(auto, unfolding(interval::specs::Calls::pulse_answer, interval::specs::Interval::pulse_all))]
+pub fn pulse(c: &mut Interval, gates: u8) -> Result<u8, Refusal>
+    ensures { pulse_answered result c.new ≡ Calls.pulse_answer c.old gates }
 {
-    if !accepts(c) {
-        return refuse_pulse(BAD_RECORD, c);
+    if !accepts(*c) {
+        return Err(Refusal::BadRecord);
     }
     if gates >= 8 {
-        return refuse_pulse(BAD_PINS, c);
+        return Err(Refusal::BadPins);
     }
-    passed_pulse(Interval {
-        counter0: interval_counter::pulse(gates & 1, c.counter0),
-        counter1: interval_counter::pulse((gates >> 1) & 1, c.counter1),
-        counter2: interval_counter::pulse((gates >> 2) & 1, c.counter2),
-    })
+    c.counter0 = interval_counter::pulse(gates & 1, c.counter0);
+    c.counter1 = interval_counter::pulse((gates >> 1) & 1, c.counter1);
+    c.counter2 = interval_counter::pulse((gates >> 2) & 1, c.counter2);
+    Ok(outputs(*c))
 }
 
 // n pulses with one gate byte, at once.
-pub fn jump(c: Interval, gates: u8, n: u64) -> PulseAnswer
-    ensures { result ≡ Calls.jump_answer c gates n }
+#[tactic(auto, using(interval::proofs::Ranges::ok0, interval::proofs::Ranges::ok1, interval::proofs::Ranges::ok2, interval::proofs::Pulses::pulses_all_each, laws::proofs::Bits::bits), unfolding(interval::specs::Calls::jump_answer))]
+pub fn jump(c: &mut Interval, gates: u8, n: u64) -> Result<u8, Refusal>
+    ensures { pulse_answered result c.new ≡ Calls.jump_answer c.old gates n }
 {
-    if !accepts(c) {
-        return refuse_pulse(BAD_RECORD, c);
+    if !accepts(*c) {
+        return Err(Refusal::BadRecord);
     }
     if gates >= 8 {
-        return refuse_pulse(BAD_PINS, c);
+        return Err(Refusal::BadPins);
     }
     if n > LONGEST {
-        return refuse_pulse(TOO_LONG, c);
+        return Err(Refusal::TooLong);
     }
-    passed_pulse(Interval {
-        counter0: interval_jump::jump(n, gates & 1, c.counter0),
-        counter1: interval_jump::jump(n, (gates >> 1) & 1, c.counter1),
-        counter2: interval_jump::jump(n, (gates >> 2) & 1, c.counter2),
-    })
+    c.counter0 = interval_jump::jump(n, gates & 1, c.counter0);
+    c.counter1 = interval_jump::jump(n, (gates >> 1) & 1, c.counter1);
+    c.counter2 = interval_jump::jump(n, (gates >> 2) & 1, c.counter2);
+    Ok(outputs(*c))
 }

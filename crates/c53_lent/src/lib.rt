@@ -8,8 +8,9 @@ ghost use Rattle.interval.specs.Calls as Timer;
 ghost use Rattle.c53_lent.specs.Answers as Numbers;
 
 use interval::Interval;
+use machine::refusals::{Refusal, code_of};
 
-// A read's code and the byte.
+// A read's code and the byte. C has no Result: 0 or the number, and zeros.
 #[repr(C)]
 #[derive(Clone, Copy)]
 pub struct ValueAnswer {
@@ -17,7 +18,7 @@ pub struct ValueAnswer {
     pub value: u8,
 }
 
-// The code of a pulse or a jump, and the outputs.
+// The code of a pulse or a jump, and the outputs. C has no Result: 0 or the number, and zeros.
 #[repr(C)]
 #[derive(Clone, Copy)]
 pub struct OutputsAnswer {
@@ -30,9 +31,7 @@ pub struct OutputsAnswer {
 pub extern "C" fn c53_write(c: &mut Interval, address: u8, byte: u8) -> u8
     ensures { (result ≡ (Timer.write_answer c.old address byte).code) × (c.new ≡ (Timer.write_answer c.old address byte).interval) }
 {
-    let written = c53::write(*c, address, byte);
-    *c = written.interval;
-    written.code
+    code_of(c53::write(c, address, byte))
 }
 
 // Read a byte of a count at 0 to 2: 1, 12.
@@ -40,11 +39,25 @@ pub extern "C" fn c53_write(c: &mut Interval, address: u8, byte: u8) -> u8
 pub extern "C" fn c53_read(c: &mut Interval, address: u8) -> ValueAnswer
     ensures { (result.code ≡ (Timer.read_answer c.old address).code) × ((result.value ≡ (Timer.read_answer c.old address).value) × (c.new ≡ (Timer.read_answer c.old address).interval)) }
 {
-    let read = c53::read(*c, address);
-    *c = read.interval;
-    ValueAnswer {
-        code: read.code,
-        value: read.value,
+    match c53::read(c, address) {
+        Ok(value) => ValueAnswer { code: 0, value },
+        Err(e) => ValueAnswer {
+            code: e.number(),
+            value: 0,
+        },
+    }
+}
+
+// A pulse or a jump for C.
+fn outputs_answer(outcome: Result<u8, Refusal>) -> OutputsAnswer
+    ensures { result ≡ Numbers.outputs_answer outcome }
+{
+    match outcome {
+        Ok(outputs) => OutputsAnswer { code: 0, outputs },
+        Err(e) => OutputsAnswer {
+            code: e.number(),
+            outputs: 0,
+        },
     }
 }
 
@@ -53,12 +66,7 @@ pub extern "C" fn c53_read(c: &mut Interval, address: u8) -> ValueAnswer
 pub extern "C" fn c53_pulse(c: &mut Interval, gates: u8) -> OutputsAnswer
     ensures { (result.code ≡ (Timer.pulse_answer c.old gates).code) × ((result.outputs ≡ (Timer.pulse_answer c.old gates).outputs) × (c.new ≡ (Timer.pulse_answer c.old gates).interval)) }
 {
-    let pulsed = c53::pulse(*c, gates);
-    *c = pulsed.interval;
-    OutputsAnswer {
-        code: pulsed.code,
-        outputs: pulsed.outputs,
-    }
+    outputs_answer(c53::pulse(c, gates))
 }
 
 // n pulses with one gate byte: 1, 4, 5.
@@ -66,12 +74,7 @@ pub extern "C" fn c53_pulse(c: &mut Interval, gates: u8) -> OutputsAnswer
 pub extern "C" fn c53_jump(c: &mut Interval, gates: u8, n: u64) -> OutputsAnswer
     ensures { (result.code ≡ (Timer.jump_answer c.old gates n).code) × ((result.outputs ≡ (Timer.jump_answer c.old gates n).outputs) × (c.new ≡ (Timer.jump_answer c.old gates n).interval)) }
 {
-    let jumped = c53::jump(*c, gates, n);
-    *c = jumped.interval;
-    OutputsAnswer {
-        code: jumped.code,
-        outputs: jumped.outputs,
-    }
+    outputs_answer(c53::jump(c, gates, n))
 }
 
 // Reset of the 82C53.
@@ -96,5 +99,5 @@ pub extern "C" fn c53_outputs(c: Interval) -> u8
 pub extern "C" fn c53_accepts(c: Interval) -> u8
     ensures { result ≡ Numbers.accepts_answer c }
 {
-    if c53::accepts(c) { 1 } else { 0 }
+    u8::from(c53::accepts(c))
 }

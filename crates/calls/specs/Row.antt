@@ -1,17 +1,12 @@
 -- A row of a script: how it spells a call, and how the answer is written down.
-use Rattle.std.specs.Prelude.{ℕ, zero, suc, ◌-◌, ◌%◌, ◌^◌, cond, List, [], ◌∷◌, length, take, drop, leb, eqb}
-use Rattle.machine.specs.declared.Device.{Device}
-use Rattle.machine.specs.declared.Answer.{Answer}
-use Rattle.machine.specs.declared.JumpAnswer.{JumpAnswer}
-use Rattle.machine.specs.declared.RunAnswer.{RunAnswer}
-use Rattle.machine.specs.declared.CycleAnswer.{CycleAnswer}
-use Rattle.machine.specs.declared.TakeAnswer.{TakeAnswer}
-use Rattle.machine.specs.declared.ReadAnswer.{ReadAnswer}
-use Rattle.machine.specs.declared.OfferAnswer.{OfferAnswer}
-use Rattle.machine.specs.declared.LookAnswer.{LookAnswer}
-use Rattle.machine.specs.Lists.{Call, Value, Reply, Played, played, reply_of, reply_of_jump, reply_of_run, reply_of_cycle, reply_of_take, reply_of_read, reply_of_offer, reply_of_look}
+use Rattle.std.specs.Prelude.{ℕ, zero, suc, ◌-◌, ◌%◌, ◌^◌, cond, List, [], ◌∷◌, length, take, drop, leb, eqb, Option, Some, None, Result, Ok, Err}
+use Rattle.machine.specs.declared.Totals.{Totals}
+use Rattle.machine.specs.declared.Jumped.{Jumped}
+use Rattle.machine.specs.declared.refusals.Refusal.{Refusal}
+use Rattle.machine.specs.Totals.{no_totals}
+use Rattle.machine.specs.Outcomes.{code_of, number as number_of}
+use Rattle.machine.specs.Lists.{Call, Value, Reply, says, nothing, number, listed, listed_with}
 use Rattle.machine.specs.Lists.Value.{numbers, none}
-use Rattle.calls.specs.declared.Shown.{Shown}
 
 -- A call
 
@@ -102,30 +97,25 @@ padded (suc n) (m ∷ ns) = m ∷ padded n ns
 abbrev pub row_of : Reply → List ℕ
 row_of r = r.code ∷ count_of r.value ∷ padded most_numbers (numbers_of r.value)
 
--- what the code writes down of a call: the row, and the device after it
-abbrev pub shown : Played → Shown
-shown p = record { row = row_of p.reply; device = p.device }
+-- The reply to an outcome of the code, by the kinds of calls: one that gives nothing, a number, a jump's or a trace run's numbers, and a
+-- number or none
 
-abbrev pub shown_plain : Answer → Shown
-shown_plain a = shown (played (reply_of a) a.device)
+abbrev pub plain_reply : Result (Unit {0}) Refusal → Reply
+plain_reply o = says (code_of o) nothing
 
-abbrev pub shown_jump : JumpAnswer → Shown
-shown_jump a = shown (played (reply_of_jump a) a.device)
+abbrev pub number_reply : Result ℕ Refusal → Reply
+number_reply (Ok n) = says 0 (number n)
+number_reply (Err e) = says (number_of e) (number 0)
 
-abbrev pub shown_run : RunAnswer → Shown
-shown_run a = shown (played (reply_of_run a) a.device)
+abbrev pub jump_reply : Result Jumped Refusal → Reply
+jump_reply (Ok j) = says 0 (numbers (listed_with j.totals j.rounds))
+jump_reply (Err e) = says (number_of e) (numbers (listed_with no_totals 0))
 
-abbrev pub shown_cycle : CycleAnswer → Shown
-shown_cycle a = shown (played (reply_of_cycle a) a.device)
+abbrev pub run_reply : Result Totals Refusal → Reply
+run_reply (Ok t) = says 0 (numbers (listed t))
+run_reply (Err e) = says (number_of e) (numbers (listed no_totals))
 
-abbrev pub shown_take : TakeAnswer → Shown
-shown_take a = shown (played (reply_of_take a) a.device)
-
-abbrev pub shown_read : ReadAnswer → Device → Shown
-shown_read a d = shown (played (reply_of_read a) d)
-
-abbrev pub shown_offer : OfferAnswer → Device → Shown
-shown_offer a d = shown (played (reply_of_offer a) d)
-
-abbrev pub shown_look : LookAnswer → Device → Shown
-shown_look a d = shown (played (reply_of_look a) d)
+abbrev pub sought_reply : Result (Option ℕ) Refusal → Reply
+sought_reply (Ok (Some n)) = says 0 (number n)
+sought_reply (Ok None) = says 0 none
+sought_reply (Err e) = says (number_of e) (number 0)

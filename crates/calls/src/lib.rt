@@ -4,17 +4,15 @@
 
 ghost use Rattle.std.specs.Prelude.{◌≡◌};
 ghost use Rattle.machine.specs.Lists.{play};
-ghost use Rattle.calls.specs.Row.{part_of, byte_in, call_of, shown, shown_plain, shown_jump, shown_run, shown_cycle, shown_take, shown_read, shown_offer, shown_look};
+ghost use Rattle.calls.specs.Row.{part_of, byte_in, call_of, row_of, plain_reply, number_reply, jump_reply, run_reply, sought_reply};
 
-use machine::{
-    Answer, CycleAnswer, Device, JumpAnswer, LookAnswer, OfferAnswer, ReadAnswer, RunAnswer,
-    TakeAnswer,
-};
+use machine::refusals::Refusal;
+use machine::{Device, Jumped, Totals};
 
 // The words of an answer: its code, how many numbers it gives or NONE, and the numbers, 0 past them.
 pub const ANSWER_WORDS: usize = 6;
 
-// The mark of an answer that says none.
+// The mark of an answer that says none, which C reads in a row of words.
 pub const NONE: u64 = 0xffff_ffff_ffff_ffff;
 
 // The calls by their numbers; every other number is a return.
@@ -38,125 +36,73 @@ const TAKE: u64 = 8;
 
 const WAKE: u64 = 10;
 
-// What a call answers, as the row that is written down; and the device after it.
-#[derive(Clone, Copy)]
-pub struct Shown {
-    pub row: [u64; ANSWER_WORDS],
-    pub device: Device,
-}
+// What a call answers, as it is written down.
+pub type Row = [u64; ANSWER_WORDS];
 
-// A call that answers only that it passed.
-fn shown_plain(a: Answer) -> Shown
-    ensures { result ≡ shown_plain a }
+// A call that gives nothing.
+fn plain_row(outcome: Result<(), Refusal>) -> Row
+    ensures { result ≡ row_of (plain_reply outcome) }
 {
-    let e = a.device;
-    Shown {
-        row: [a.code as u64, 0, 0, 0, 0, 0],
-        device: e,
+    match outcome {
+        Ok(()) => [0, 0, 0, 0, 0, 0],
+        Err(e) => [u64::from(e.number()), 0, 0, 0, 0, 0],
     }
 }
 
-// A jump, which answers four numbers, and a trace run, which answers three.
-fn shown_jump(a: JumpAnswer) -> Shown
-    ensures { result ≡ shown_jump a }
+// One that gives a number: a read, a cycle, a take.
+fn number_row(outcome: Result<u8, Refusal>) -> Row
+    ensures { result ≡ row_of (number_reply outcome) }
 {
-    let e = a.device;
-    let t = a.totals;
-    Shown {
-        row: [a.code as u64, 4, t.timer0, t.timer1, t.timer2, a.rounds],
-        device: e,
+    match outcome {
+        Ok(n) => [0, 1, u64::from(n), 0, 0, 0],
+        Err(e) => [u64::from(e.number()), 1, 0, 0, 0, 0],
     }
 }
 
-fn shown_run(a: RunAnswer) -> Shown
-    ensures { result ≡ shown_run a }
+// A jump gives four, and a trace run three.
+fn jump_row(outcome: Result<Jumped, Refusal>) -> Row
+    ensures { result ≡ row_of (jump_reply outcome) }
 {
-    let e = a.device;
-    Shown {
-        row: [
-            a.code as u64,
-            3,
-            a.totals.timer0,
-            a.totals.timer1,
-            a.totals.timer2,
+    match outcome {
+        Ok(j) => [
             0,
+            4,
+            j.totals.timer0,
+            j.totals.timer1,
+            j.totals.timer2,
+            j.rounds,
         ],
-        device: e,
+        Err(e) => [u64::from(e.number()), 4, 0, 0, 0, 0],
     }
 }
 
-// One that answers a number.
-fn shown_cycle(a: CycleAnswer) -> Shown
-    ensures { result ≡ shown_cycle a }
+fn run_row(outcome: Result<Totals, Refusal>) -> Row
+    ensures { result ≡ row_of (run_reply outcome) }
 {
-    let e = a.device;
-    Shown {
-        row: [a.code as u64, 1, a.line as u64, 0, 0, 0],
-        device: e,
+    match outcome {
+        Ok(t) => [0, 3, t.timer0, t.timer1, t.timer2, 0],
+        Err(e) => [u64::from(e.number()), 3, 0, 0, 0, 0],
     }
 }
 
-fn shown_take(a: TakeAnswer) -> Shown
-    ensures { result ≡ shown_take a }
+// One that gives a number or none: an offer, a look.
+fn sought_row(outcome: Result<Option<u64>, Refusal>) -> Row
+    ensures { result ≡ row_of (sought_reply outcome) }
 {
-    let e = a.device;
-    Shown {
-        row: [a.code as u64, 1, a.vector as u64, 0, 0, 0],
-        device: e,
+    match outcome {
+        Ok(Some(n)) => [0, 1, n, 0, 0, 0],
+        Ok(None) => [0, NONE, 0, 0, 0, 0],
+        Err(e) => [u64::from(e.number()), 1, 0, 0, 0, 0],
     }
 }
 
-// Reads, offers and looks alter nothing: the device is the one that they were given.
-fn shown_read(a: ReadAnswer, d: Device) -> Shown
-    ensures { result ≡ shown_read a d }
+// An offer's vector as such a number.
+fn offer_row(outcome: Result<Option<u8>, Refusal>) -> Row
+    ensures { result ≡ row_of (sought_reply outcome) }
 {
-    match a {
-        ReadAnswer::Refused(k) => Shown {
-            row: [k as u64, 1, 0, 0, 0, 0],
-            device: d,
-        },
-        ReadAnswer::Value(v) => Shown {
-            row: [0, 1, v as u64, 0, 0, 0],
-            device: d,
-        },
-    }
-}
-
-fn shown_offer(a: OfferAnswer, d: Device) -> Shown
-    ensures { result ≡ shown_offer a d }
-{
-    match a {
-        OfferAnswer::Refused(k) => Shown {
-            row: [k as u64, 1, 0, 0, 0, 0],
-            device: d,
-        },
-        OfferAnswer::Vector(v) => Shown {
-            row: [0, 1, v as u64, 0, 0, 0],
-            device: d,
-        },
-        OfferAnswer::Nothing => Shown {
-            row: [0, NONE, 0, 0, 0, 0],
-            device: d,
-        },
-    }
-}
-
-fn shown_look(a: LookAnswer, d: Device) -> Shown
-    ensures { result ≡ shown_look a d }
-{
-    match a {
-        LookAnswer::Refused(k) => Shown {
-            row: [k as u64, 1, 0, 0, 0, 0],
-            device: d,
-        },
-        LookAnswer::At(k) => Shown {
-            row: [0, 1, k, 0, 0, 0],
-            device: d,
-        },
-        LookAnswer::Nothing => Shown {
-            row: [0, NONE, 0, 0, 0, 0],
-            device: d,
-        },
+    match outcome {
+        Ok(vector) => sought_row(Ok(vector.map(u64::from))),
+        Err(e) => sought_row(Err(e)),
     }
 }
 
@@ -164,16 +110,9 @@ fn shown_look(a: LookAnswer, d: Device) -> Shown
 fn part(lent: &[u32], start: u64, end: u64) -> &[u32]
     ensures { result.now ≡ part_of lent.now start end }
 {
-    let from = start as usize;
-    let to = end as usize;
-    if from <= to {
-        if to <= lent.len() {
-            &lent[from..to]
-        } else {
-            &lent[..0]
-        }
-    } else {
-        &lent[..0]
+    match lent.get(start as usize..end as usize) {
+        Some(entries) => entries,
+        None => &[],
     }
 }
 
@@ -184,21 +123,22 @@ fn byte_in(word: u64) -> u8
     (word % 256) as u8
 }
 
-// One call of a script, by the public calls.
-pub fn play_one(d: Device, op: u64, first: u64, second: u64, lent: &[u32]) -> Shown
-    ensures { result ≡ shown (play (call_of op first second lent.now) d) }
+// One call of a script, by the public calls. The numbers are those of the scripts that C hands in, so a word is told by them here.
+pub fn play_one(d: &mut Device, op: u64, first: u64, second: u64, lent: &[u32]) -> Row
+    ensures row { result ≡ row_of (play (call_of op first second lent.now) d.old).reply }
+    ensures device { d.new ≡ (play (call_of op first second lent.now) d.old).device }
 {
     match op {
-        RESET => shown_plain(c51_access::reset(byte_in(first))),
-        READ => shown_read(c51_access::read(d, byte_in(first)), d),
-        WRITE => shown_plain(c51_access::write(d, byte_in(first), byte_in(second))),
-        CYCLE => shown_cycle(c51_run::cycle(d, byte_in(first))),
-        JUMP => shown_jump(c51_run::jump(d, byte_in(first), second)),
-        TRACE => shown_run(c51_run::trace(d, part(lent, first, second))),
-        LOOK => shown_look(c51_run::look(d, byte_in(first), second), d),
-        OFFER => shown_offer(c51_interrupt::offer(d), d),
-        TAKE => shown_take(c51_interrupt::take(d)),
-        WAKE => shown_look(c51_run::wake(d, byte_in(first), second), d),
-        _ => shown_plain(c51_interrupt::reti(d)),
+        RESET => plain_row(c51_access::reset(d, byte_in(first))),
+        READ => number_row(c51_access::read(*d, byte_in(first))),
+        WRITE => plain_row(c51_access::write(d, byte_in(first), byte_in(second))),
+        CYCLE => number_row(c51_run::cycle(d, byte_in(first))),
+        JUMP => jump_row(c51_run::jump(d, byte_in(first), second)),
+        TRACE => run_row(c51_run::trace(d, part(lent, first, second))),
+        LOOK => sought_row(c51_run::look(*d, byte_in(first), second)),
+        OFFER => offer_row(c51_interrupt::offer(*d)),
+        TAKE => number_row(c51_interrupt::take(d)),
+        WAKE => sought_row(c51_run::wake(*d, byte_in(first), second)),
+        _ => plain_row(c51_interrupt::reti(d)),
     }
 }

@@ -2,7 +2,7 @@
 // says what a file and a reading are.
 #![tactic(auto)]
 
-ghost use Rattle.std.specs.Prelude.{◌≡◌, ◌⊎◌, ◌<◌, ◌≤◌, length, replicate};
+ghost use Rattle.std.specs.Prelude.{◌≡◌, ◌⊎◌, ◌<◌, ◌≤◌, length, drop, replicate, IfOk};
 ghost use Rattle.machine.specs.Checkpoint as Checkpoint;
 ghost use Rattle.machine.specs.Checkpoint.{places};
 ghost use Rattle.machine.specs.Checkpoint.Reading.{reading};
@@ -10,13 +10,12 @@ ghost use Rattle.layout.specs.Order.{length_of, place_of};
 ghost use Rattle.checkpoint.specs.Reads.{taken_by, fault_of, state_of};
 
 use machine::Part;
-use machine::refusals::{BAD_LAYOUT, BAD_LENGTH, BAD_VALUE, PASSED};
+use machine::refusals::Refusal;
 use values::{PLACES, RECEIVED, SBUF};
 
-// A reading: the code so far, the next byte's place in the file, and the values, 0 where none is read yet.
+// A reading so far: the next byte's place in the file, and the values, 0 where none is read yet.
 #[derive(Clone, Copy)]
 pub struct Reading {
-    pub code: u8,
     pub at: usize,
     pub values: [u64; PLACES],
 }
@@ -33,14 +32,14 @@ fn holds(kind: u8, place: usize, v: [u64; PLACES]) -> bool
     }
 }
 
-// The number of a part in the file of these values.
+// The number of a part in the file of these values. A part is data of the definitions, so its place has no range in its type.
 fn number_at(v: [u64; PLACES], p: Part) -> u64
     requires { place_of p < places }
     ensures { result ≡ Checkpoint.number_at v p }
 {
     match p {
-        Part::Mark(m) => m as u64,
-        Part::Value { place, width: _ } => v[place],
+        Part::Mark(m) => u64::from(m),
+        Part::Value { place, .. } => v[place],
     }
 }
 
@@ -49,26 +48,24 @@ pub fn write(kind: u8, v: [u64; PLACES], buffer: &mut [u8])
     requires { ((kind ≡ 51) ⊎ (kind ≡ 52)) × (length buffer.old ≡ length_of kind) }
     ensures { buffer.new ≡ Checkpoint.written (Checkpoint.layout kind) v }
 {
-    let count = layout::parts(kind);
-    let mut n = 0;
     let mut at = 0;
-    while n < count {
+    for n in 0..layout::parts(kind) {
         let p = layout::part(kind, n);
         let width = layout::width_of(p);
-        layout::put(buffer, at, width, number_at(v, p));
+        layout::put(&mut buffer[at..at + width], number_at(v, p));
         at += width;
-        n += 1;
     }
 }
 
 // The values once a part is read.
+#[tactic(auto, unfolding(crate::specs::Reads::taken_by))]
 fn taken(p: Part, n: u64, v: [u64; PLACES]) -> [u64; PLACES]
     requires { place_of p < places }
     ensures { result ≡ taken_by p n v }
 {
     match p {
         Part::Mark(_) => v,
-        Part::Value { place, width: _ } => {
+        Part::Value { place, .. } => {
             let mut w = v;
             w[place] = n;
             w
@@ -77,70 +74,57 @@ fn taken(p: Part, n: u64, v: [u64; PLACES]) -> [u64; PLACES]
 }
 
 // What is wrong with a part that is read: a wrong count or address, or a value that does not hold.
-fn fault(kind: u8, p: Part, n: u64, v: [u64; PLACES]) -> u8
+#[tactic(auto, unfolding(crate::specs::Reads::fault_of))]
+fn fault(kind: u8, p: Part, n: u64, v: [u64; PLACES]) -> Result<(), Refusal>
     ensures { result ≡ fault_of kind p n v }
 {
-    match p {
-        Part::Mark(m) => laws::picked(n == (m as u64), PASSED, BAD_LAYOUT),
-        Part::Value { place, width: _ } => laws::picked(holds(kind, place, v), PASSED, BAD_VALUE),
-    }
+    let (right, refusal) = match p {
+        Part::Mark(m) => (n == u64::from(m), Refusal::BadLayout),
+        Part::Value { place, .. } => (holds(kind, place, v), Refusal::BadValue),
+    };
+    if right { Ok(()) } else { Err(refusal) }
 }
 
-// A part, as soon as it is whole; the first fault stays.
-fn read_part(kind: u8, file: &[u8], p: Part, r: Reading) -> Reading
+// A part, as soon as it is whole.
+fn read_part(kind: u8, file: &[u8], p: Part, r: Reading) -> Result<Reading, Refusal>
     requires { (place_of p < places) × ((Checkpoint.width_of p ≤ 8) × (r.at ≤ length file.now)) }
-    ensures { (state_of file.now result ≡ Checkpoint.read_part kind p (state_of file.now r)) × (result.at ≤ length file.now) }
+    ensures { (state_of file.now result ≡ Checkpoint.read_part kind p (reading r.values (drop r.at file.now))) × IfOk result (λ next. next.at ≤ length file.now) }
 {
-    let at = r.at;
-    let values = r.values;
-    if r.code != PASSED {
-        return r;
-    }
     let width = layout::width_of(p);
-    if file.len() - at < width {
-        return Reading {
-            code: BAD_LENGTH,
-            at: at,
-            values: values,
-        };
+    if file.len() - r.at < width {
+        return Err(Refusal::BadLength);
     }
-    let n = layout::number(file, at, width);
-    let v = taken(p, n, values);
-    let code = fault(kind, p, n, v);
-    Reading {
-        code: code,
-        at: at + width,
-        values: v,
-    }
+    let n = layout::number(&file[r.at..r.at + width]);
+    let values = taken(p, n, r.values);
+    fault(kind, p, n, values)?;
+    Ok(Reading {
+        at: r.at + width,
+        values,
+    })
 }
 
 // The kind that a file is read as, by its register count.
 pub fn kind_in(file: &[u8]) -> u8
     ensures { result ≡ Checkpoint.kind_in file.now }
 {
-    if 0 < file.len() {
-        laws::picked(file[0] == layout::COUNT_51, 51, 52)
+    if file.first() == Some(&layout::COUNT_51) {
+        51
     } else {
         52
     }
 }
 
-// A file, part by part from the front. What is left over is not judged here.
-pub fn read(kind: u8, file: &[u8]) -> Reading
+// A file, part by part from the front, up to the first fault. What is left over is not judged here.
+pub fn read(kind: u8, file: &[u8]) -> Result<Reading, Refusal>
     requires { (kind ≡ 51) ⊎ (kind ≡ 52) }
-    ensures { (state_of file.now result ≡ Checkpoint.read_parts kind (Checkpoint.layout kind) (reading (replicate places 0) file.now)) × (result.at ≤ length file.now) }
+    ensures { (state_of file.now result ≡ Checkpoint.read_parts kind (Checkpoint.layout kind) (reading (replicate places 0) file.now)) × IfOk result (λ r. r.at ≤ length file.now) }
 {
-    let count = layout::parts(kind);
     let mut r = Reading {
-        code: PASSED,
         at: 0,
         values: [0; PLACES],
     };
-    let mut n = 0;
-    while n < count {
-        let p = layout::part(kind, n);
-        r = read_part(kind, file, p, r);
-        n += 1;
+    for n in 0..layout::parts(kind) {
+        r = read_part(kind, file, layout::part(kind, n), r)?;
     }
-    r
+    Ok(r)
 }

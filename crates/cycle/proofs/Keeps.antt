@@ -131,6 +131,10 @@ module _ (d : Device) (r : Ranges d) where
 pub ticks_ok : (d : Device) → accepted d ≡ true → (l : ℕ) {c : Counted} {k : Ticks} → c ≡ counted d l → k ≡ ticks_in d c → TicksOk k
 ticks_ok d a l e f = rw (f, e) (record { send = (few_ticks d a l).send; half = half_keeps d (ranges_of d a) l })
 
+-- the saved levels of an accepted device
+pub accepted_levels : (d : Device) → accepted d ≡ true → levels_ok d.levels ≡ true
+accepted_levels d a = (ranges_of d a).levels
+
 -- a cycle keeps an accepted device accepted
 pub cycle_accepted : (pins : ℕ) (d : Device) → accepted d ≡ true → accepted (cycle_of pins d) ≡ true
 cycle_accepted pins d a = accepted_of (cycle_of pins d) (cycle_ranges d (ranges_of d a) pins)

@@ -4,9 +4,11 @@ use mathlib.Core.Bool.{Bool, true, false, cond, ◌&&◌, ◌||◌, and-true, an
 use Prim.Native.Nat.{ℕ, zero, suc, ◌+◌, ◌*◌, ◌/◌, ◌%◌, ◌<◌, min}
 use native.Mathlib.Nat.{zero-div}
 use native.Mathlib.Omega.{arith}
-use lib.Dec.{T, eqb, eqb→eq, eqb-suc-zero, lit<}
+use lib.Dec.{T, eqb, ltb, eqb→eq, eqb-suc-zero, lit<}
 use lib.Bits.{bit_and, bit_or, and_le_l, and_le_r, mask_lt, or_shifted_r}
 use lib.Count.{count_trailing_zeros}
+use Rattle.std.specs.Prelude.{Option, Some, None}
+use Rattle.std.specs.Bool.{then_some}
 use Rattle.machine.proofs.Choices.{chosen, cond_ap}
 use Rattle.laws.proofs.Bits.{bit_below, bit_and_lem}
 use Rattle.laws.proofs.Tests.{all, at}
@@ -14,7 +16,7 @@ use Rattle.machine.specs.Bits.{bit}
 use Rattle.machine.specs.Registers.{IE0, TF0, IE1, TF1, RI, TI, TF2, EXF2, EA}
 use Rattle.machine.specs.declared.Interrupts.{Interrupts}
 use Rattle.machine.specs.Interrupts.{Source, none, source, some_source, either, seen_of, first_of, sources, asks, asks_marked, or_else, choice, vector_of}
-use Rattle.interrupts.specs.Number.{number_of, first_set}
+use Rattle.interrupts.specs.Number.{source_of, first_set}
 
 -- the four flags of TCON in seen
 flags : ℕ → ℕ
@@ -66,13 +68,30 @@ seen_by_masks tcon scon t2con h k l =
     (stacked (flags tcon) (either (bit RI scon) (bit TI scon)) (either (bit TF2 t2con) (bit EXF2 t2con)) (flags_few tcon)
     (either_few (bit RI scon) (bit TI scon)) (either_few (bit TF2 t2con) (bit EXF2 t2con)))
 
--- the lowest bit that is set: below a bit 6 that is set the count of zeros stops at 6
-counts : ℕ → Bool
-counts x = eqb (count_trailing_zeros 8 (bit_or x 0x40)) (number_of (first_set x))
+-- the lowest bit that is set, by the count of zeros below it: one of the six, or none
+same : Option ℕ → Option ℕ → Bool
+same (Some a) (Some b) = eqb a b
+same (Some a) None = false
+same None (Some b) = false
+same None None = true
 
-pub trailing_first : (x : ℕ) → x < 256 → count_trailing_zeros 8 (bit_or x 0x40) ≡ number_of (first_set x)
-unfolding counts count_trailing_zeros first_set first_of
-trailing_first x h = eqb→eq (count_trailing_zeros 8 (bit_or x 0x40)) (number_of (first_set x)) (at counts 256 tt x h)
+same→eq : (a b : Option ℕ) → T (same a b) → a ≡ b
+unfolding same
+same→eq (Some a) (Some b) t = ap Some (eqb→eq a b t)
+same→eq (Some a) None t = absurd t
+same→eq None (Some b) t = absurd t
+same→eq None None t = refl
+
+trailing : ℕ → Option ℕ
+trailing x = then_some (ltb (count_trailing_zeros 8 x) 6) (count_trailing_zeros 8 x)
+
+counts : ℕ → Bool
+counts x = same (trailing x) (source_of (first_set x))
+
+pub trailing_first : (x : ℕ) → x < 256
+    → then_some (ltb (count_trailing_zeros 8 x) 6) (count_trailing_zeros 8 x) ≡ source_of (first_set x)
+unfolding same trailing counts count_trailing_zeros first_set first_of
+trailing_first x h = same→eq (trailing x) (source_of (first_set x)) (at counts 256 tt x h)
 
 -- a bit of a mask is set where both are
 both : (p q : ℕ) → p < 2 → q < 2 → eqb (min p q) 1 ≡ eqb p 1 && eqb q 1

@@ -1,20 +1,15 @@
 -- Each step of the interrupt controller keeps its fields in their ranges, by the cases of its definition.
-use mathlib.Core.Path.{◌≡◌, refl}
-use mathlib.Core.Bool.{Bool}
 use Prim.Native.Nat.{ℕ, ◌<◌, ◌≤◌}
 use native.Mathlib.Nat.{le_trans, sub-le}
 use native.Mathlib.Omega.{arith}
-use lib.Dec.{eqb, ltb, lit<, lit≤}
-use borrow.Author.Tests.{lt-ltb}
+use lib.Dec.{eqb, lit≤}
 use Rattle.laws.specs.Ranges.{InterruptsOk}
 use Rattle.machine.proofs.Choices.{chosen}
 use Rattle.laws.proofs.Bits.{set_lt, clear_lt}
 use Rattle.machine.specs.Bits.{bit, set_bit}
 use Rattle.machine.specs.Registers.{TF0, TF1, IE0, IE1, IT0, IT1, RI, TI, TF2, EXF2}
 use Rattle.machine.specs.declared.Interrupts.{Interrupts}
-use Rattle.machine.specs.Power.{powered_down}
-use Rattle.machine.specs.Interrupts.{Source, none, source, external, seen_of, first_of, sources, asks, asks_marked, or_else, choice, offered, offers, some_source, in_service, taken, returned}
-use Rattle.interrupts.specs.Number.{number_of}
+use Rattle.machine.specs.Interrupts.{external, seen_of, in_service, taken, returned}
 use Rattle.interrupts.proofs.Laws.{either_few}
 
 abbrev Byte : ℕ → Type 0
@@ -73,56 +68,3 @@ returned_ok kind i r =
       low = chosen Mark (eqb i.high 1) _ _ r.low (lit≤ tt);
       high = lit≤ tt;
     }
-
--- what is offered is one of the six sources
-One : Source → Type 0
-One none = Unit
-One (source k) = k < 6
-
-first_one : (f : ℕ → Bool) → One (first_of f sources)
-unfolding first_of One
-first_one f =
-    chosen One (f 0) _ _ (lit< tt)
-    (chosen One (f 1) _ _ (lit< tt)
-    (chosen One (f 2) _ _ (lit< tt)
-    (chosen One (f 3) _ _ (lit< tt) (chosen One (f 4) _ _ (lit< tt) (chosen One (f 5) _ _ (lit< tt) tt)))))
-
-or_one : (a b : Source) → One a → One b → One (or_else a b)
-or_one none b p q = q
-or_one (source k) b p q = p
-
-choice_one : (i : Interrupts) → One (choice i)
-unfolding choice One
-choice_one i =
-    chosen One (eqb i.high 1) none _ tt
-    (or_one (first_of (asks_marked i) sources) _ (first_one (asks_marked i)) (chosen One (eqb i.low 1) none _ tt (first_one (asks i))))
-
--- read from its number: below 6 that source, 6 none
-number_source : (s : Source) → number_of s < 6 → s ≡ source (number_of s)
-number_source none h = absurd (omega arith)
-number_source (source k) h = refl
-
-number_none : (s : Source) → One s → 6 ≤ number_of s → s ≡ none
-unfolding One
-number_none none o h = refl
-number_none (source k) o h = absurd (omega arith)
-
-number_some : (s : Source) → One s → ltb (number_of s) 6 ≡ some_source s
-unfolding One
-number_some none o = refl
-number_some (source k) o = lt-ltb k 6 o
-
-module _ (pcon : ℕ) (i : Interrupts) where
-  offered_one : One (offered pcon i)
-  unfolding offered One
-  offered_one = chosen One (powered_down pcon) none (choice i) tt (choice_one i)
-
-  pub offered_below : number_of (offered pcon i) < 6 → offered pcon i ≡ source (number_of (offered pcon i))
-  offered_below = number_source (offered pcon i)
-
-  pub offered_none : 6 ≤ number_of (offered pcon i) → offered pcon i ≡ none
-  offered_none = number_none (offered pcon i) offered_one
-
-  -- an interrupt is offered
-  pub offers_below : ltb (number_of (offered pcon i)) 6 ≡ offers pcon i
-  offers_below = number_some (offered pcon i) offered_one

@@ -1,12 +1,12 @@
--- What the code's choice is made from, and the number that it gives for what is offered: a source's bit in polled, and 6 for none.
-use Rattle.std.specs.Prelude.{ℕ, eqb}
+-- What the code's choice is made from, and what it gives for what is offered: an Option of a source's bit in polled.
+use Rattle.std.specs.Prelude.{ℕ, eqb, Option, Some, None}
 use Rattle.machine.specs.Bits.{bit}
 use Rattle.machine.specs.declared.Interrupts.{Interrupts}
 use Rattle.machine.specs.Interrupts.{Source, none, source, first_of, sources}
 
-abbrev pub number_of : Source → ℕ
-number_of none = 6
-number_of (source k) = k
+abbrev pub source_of : Source → Option ℕ
+source_of none = None
+source_of (source k) = Some k
 
 -- the first source whose bit is set in x
 unfoldable pub first_set : ℕ → Source

@@ -9,11 +9,8 @@ use Rattle.machine.specs.Bits.{bit}
 use Rattle.machine.specs.Calls.{longest}
 use Rattle.machine.proofs.Choices.{chosen, cond_has, and_both, or_left, by_test}
 use Rattle.interval.specs.declared.Counter.{Counter}
-use Rattle.interval.specs.declared.CounterAnswer.{CounterAnswer}
 use Rattle.interval.specs.declared.Interval.{Interval}
-use Rattle.interval.specs.declared.WriteAnswer.{WriteAnswer}
-use Rattle.interval.specs.declared.ReadAnswer.{ReadAnswer}
-use Rattle.interval.specs.declared.PulseAnswer.{PulseAnswer}
+use Rattle.interval.specs.Answers.{CounterAnswer, WriteAnswer, ReadAnswer, PulseAnswer}
 use Rattle.interval.specs.Count.{most, digits_ok, number_of}
 use Rattle.interval.specs.Counter.{BCD, LATCH, LOW, BOTH, choice_in, format_in, is_mode0, is_mode2, fresh, reads, latch_now, control, low_first, begun, whole, bad_count, complete, write_byte, high_next, read_byte}
 use Rattle.interval.specs.Interval.{mode_ok, format_ok, fields, counter_ok, accepted, reset_of, counter_at, put_at, gates_ok, pulses_all}

@@ -4,3 +4,4 @@ pub mod Pulses
 pub mod Decades
 pub mod Accepted
 pub mod Refused
+pub mod Outcomes

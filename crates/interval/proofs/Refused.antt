@@ -4,11 +4,8 @@ use Prim.Native.Nat.{ℕ}
 use lib.Dec.{eqb, leb, ltb}
 use Rattle.machine.specs.Calls.{longest}
 use Rattle.machine.proofs.Choices.{chosen}
-use Rattle.interval.specs.declared.CounterAnswer.{CounterAnswer}
 use Rattle.interval.specs.declared.Interval.{Interval}
-use Rattle.interval.specs.declared.WriteAnswer.{WriteAnswer}
-use Rattle.interval.specs.declared.ReadAnswer.{ReadAnswer}
-use Rattle.interval.specs.declared.PulseAnswer.{PulseAnswer}
+use Rattle.interval.specs.Answers.{CounterAnswer, WriteAnswer, ReadAnswer, PulseAnswer}
 use Rattle.interval.specs.Counter.{choice_in}
 use Rattle.interval.specs.Interval.{accepted, gates_ok}
 use Rattle.interval.specs.Calls.{answered, control_answer, write_answer, read_answer, pulse_answer, jump_answer}

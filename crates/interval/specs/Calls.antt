@@ -3,11 +3,8 @@
 -- more than 2^40 pulses.
 use Rattle.std.specs.Prelude.{ℕ, cond, eqb, leb, ltb}
 use Rattle.machine.specs.Calls.{unless, longest}
-use Rattle.interval.specs.declared.CounterAnswer.{CounterAnswer}
 use Rattle.interval.specs.declared.Interval.{Interval}
-use Rattle.interval.specs.declared.WriteAnswer.{WriteAnswer}
-use Rattle.interval.specs.declared.ReadAnswer.{ReadAnswer}
-use Rattle.interval.specs.declared.PulseAnswer.{PulseAnswer}
+use Rattle.interval.specs.Answers.{CounterAnswer, WriteAnswer, ReadAnswer, PulseAnswer}
 use Rattle.interval.specs.Counter.{choice_in, control, write_byte, read_byte}
 use Rattle.interval.specs.Interval.{accepted, counter_at, put_at, outputs, gates_ok, pulse_all, pulses_all}
 

@@ -3,8 +3,8 @@
 use Rattle.std.specs.Prelude.{ℕ, zero, suc, ◌+◌, ◌*◌, ◌/◌, ◌%◌, Bool, cond, ◌&&◌, ◌||◌, not, eqb}
 use Rattle.machine.specs.Bits.{bit, field}
 use Rattle.interval.specs.declared.Counter.{Counter}
-use Rattle.interval.specs.declared.CounterAnswer.{CounterAnswer}
 use Rattle.interval.specs.declared.ByteRead.{ByteRead}
+use Rattle.interval.specs.Answers.{CounterAnswer}
 use Rattle.interval.specs.Count.{most, one_below, digits_ok, number_of, shown_as}
 
 -- a mark, a gate or an output is 1

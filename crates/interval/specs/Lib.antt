@@ -1,7 +1,9 @@
 pub mod Count
 pub mod Counter
 pub mod Interval
+pub mod Answers
 pub mod Calls
+pub mod Outcomes
 pub mod Lists
 pub mod Cards
 pub mod Decades

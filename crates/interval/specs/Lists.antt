@@ -3,9 +3,7 @@
 use Rattle.std.specs.Prelude.{ℕ, List, [], ◌∷◌}
 use Rattle.machine.specs.Lists.{Reply, says, nothing, number}
 use Rattle.interval.specs.declared.Interval.{Interval}
-use Rattle.interval.specs.declared.WriteAnswer.{WriteAnswer}
-use Rattle.interval.specs.declared.ReadAnswer.{ReadAnswer}
-use Rattle.interval.specs.declared.PulseAnswer.{PulseAnswer}
+use Rattle.interval.specs.Answers.{WriteAnswer, ReadAnswer, PulseAnswer}
 use Rattle.interval.specs.Interval.{reset_of}
 use Rattle.interval.specs.Calls.{write_answer, read_answer, pulse_answer, jump_answer}
 

@@ -1,4 +1,4 @@
-// The types of the plain 82C53: a counter, the chip, and the answers of its calls. What it does is said in specs/.
+// The types of the plain 82C53: a counter, the chip, and a byte read. What it does is said in specs/.
 #![tactic(auto)]
 
 // A counter. A mark is 0 or 1. A count is a number, below 65,536, in BCD below 10,000; its four decades are made where it is read.
@@ -41,39 +41,9 @@ pub struct Interval {
     pub counter2: Counter,
 }
 
-// What a control word or a written byte gives on one counter: 0 or the refusal's number, and the counter.
-#[derive(Clone, Copy)]
-pub struct CounterAnswer {
-    pub code: u8,
-    pub counter: Counter,
-}
-
 // A byte read, and the counter after it.
 #[derive(Clone, Copy)]
 pub struct ByteRead {
     pub value: u8,
     pub counter: Counter,
-}
-
-// The answer of a write: 0 or the refusal's number, and the chip.
-#[derive(Clone, Copy)]
-pub struct WriteAnswer {
-    pub code: u8,
-    pub interval: Interval,
-}
-
-// The answer of a read: 0 and the byte, or the refusal's number and 0; and the chip.
-#[derive(Clone, Copy)]
-pub struct ReadAnswer {
-    pub code: u8,
-    pub value: u8,
-    pub interval: Interval,
-}
-
-// The answer of a pulse and of a jump: 0 and the outputs, or the refusal's number and 0; and the chip.
-#[derive(Clone, Copy)]
-pub struct PulseAnswer {
-    pub code: u8,
-    pub outputs: u8,
-    pub interval: Interval,
 }

@@ -5,10 +5,11 @@ ghost use Rattle.std.specs.Prelude.{◌≡◌, true, ◌≤◌};
 ghost use Rattle.interval.specs.Count as Count;
 ghost use Rattle.interval.specs.Counter as Plain;
 ghost use Rattle.interval.specs.Interval.{counter_ok};
+ghost use Rattle.interval.specs.Outcomes.{counter_answered};
 
-use interval::{ByteRead, Counter, CounterAnswer};
-use laws::{picked, picked16};
-use machine::refusals::{BAD_COUNT, BAD_MODE, PASSED};
+use interval::{ByteRead, Counter};
+use laws::picked;
+use machine::refusals::Refusal;
 
 // The places of the control word: the counter's choice, the format, the mode and BCD.
 pub const SC: u8 = 6;
@@ -27,13 +28,15 @@ const HIGH: u8 = 2;
 pub const BOTH: u8 = 3;
 
 // The largest count: 16 bits, or four decades.
+#[tactic(auto, unfolding(interval::specs::Count::most))]
 pub fn most(bcd: u8) -> u16
     ensures { result ≡ Count.most bcd }
 {
-    picked16(bcd == 1, 9999, 65535)
+    picked(bcd == 1, 9999, 65535)
 }
 
 // One count down; below 0 stands the largest count.
+#[tactic(auto, unfolding(interval::specs::Count::one_below))]
 pub fn one_below(top: u16, n: u16) -> u16
     ensures { result ≡ Count.one_below top n }
 {
@@ -41,6 +44,7 @@ pub fn one_below(top: u16, n: u16) -> u16
 }
 
 // No digit of four decades is above nine.
+#[tactic(auto, unfolding(interval::specs::Count::digits_ok))]
 fn digits_ok(v: u16) -> bool
     ensures { result ≡ Count.digits_ok v }
 {
@@ -48,6 +52,7 @@ fn digits_ok(v: u16) -> bool
 }
 
 // The number that four decades show.
+#[tactic(auto, unfolding(interval::specs::Count::decimal))]
 fn decimal(v: u16) -> u16
     ensures { result ≡ Count.decimal v }
 {
@@ -55,6 +60,7 @@ fn decimal(v: u16) -> u16
 }
 
 // The four decades of a number.
+#[tactic(auto, unfolding(interval::specs::Count::decades))]
 fn decades(n: u16) -> u16
     requires { n ≤ 9999 }
     ensures { result ≡ Count.decades n }
@@ -84,15 +90,16 @@ pub fn counter_ok(k: Counter) -> bool
 }
 
 // As a control word leaves a counter.
+#[tactic(auto, unfolding(interval::specs::Counter::fresh))]
 pub fn fresh(mode: u8, bcd: u8, format: u8, gate: u8) -> Counter
     ensures { result ≡ Plain.fresh mode bcd format gate }
 {
     Counter {
-        mode: mode,
-        bcd: bcd,
-        format: format,
+        mode,
+        bcd,
+        format,
         output: picked(mode == 0, 0, 1),
-        gate: gate,
+        gate,
         loaded: 0,
         waits: 0,
         first: 0,
@@ -107,55 +114,50 @@ pub fn fresh(mode: u8, bcd: u8, format: u8, gate: u8) -> Counter
 }
 
 // A latch takes the count as it stands; a second meanwhile is ignored.
+#[tactic(auto, unfolding(interval::specs::Counter::latch_now, interval::specs::Counter::reads))]
 fn latch_now(k: Counter) -> Counter
     ensures { result ≡ Plain.latch_now k }
 {
-    let mut latched = k;
     if k.latched == 1 {
-        return latched;
+        return k;
     }
-    latched.latched = 1;
-    latched.latch = k.count;
-    latched
+    Counter {
+        latched: 1,
+        latch: k.count,
+        ..k
+    }
 }
 
 // A control word for this counter: a latch, or a format, a mode and BCD.
-pub fn control(word: u8, k: Counter) -> CounterAnswer
-    ensures { result ≡ Plain.control word k }
+#[tactic(auto, unfolding(interval::specs::Counter::control))]
+pub fn control(word: u8, k: Counter) -> Result<Counter, Refusal>
+    ensures { counter_answered result k ≡ Plain.control word k }
 {
     let format = (word >> RL) & 3;
     if format == LATCH {
-        return CounterAnswer {
-            code: PASSED,
-            counter: latch_now(k),
-        };
+        return Ok(latch_now(k));
     }
     let mode0 = (word >> M) & 7 == 0;
     if mode0 | ((word >> M) & 3 == 2) {
-        return CounterAnswer {
-            code: PASSED,
-            counter: fresh(picked(mode0, 0, 2), word & 1, format, k.gate),
-        };
+        return Ok(fresh(picked(mode0, 0, 2), word & 1, format, k.gate));
     }
-    CounterAnswer {
-        code: BAD_MODE,
-        counter: k,
-    }
+    Err(Refusal::BadMode)
 }
 
 // The two bytes of the count that a byte completes; a byte outside the format is 00.
+#[tactic(auto, unfolding(interval::specs::Counter::whole))]
 fn whole(byte: u8, k: Counter) -> u16
     ensures { result ≡ Plain.whole byte k }
 {
-    let wide = byte as u16;
-    picked16(
-        k.format == LOW,
-        wide,
-        picked16(k.format == HIGH, wide * 256, wide * 256 + (k.low as u16)),
-    )
+    match k.format {
+        LOW => u16::from(byte),
+        HIGH => u16::from_le_bytes([0, byte]),
+        _ => u16::from_le_bytes([k.low, byte]),
+    }
 }
 
 // A BCD digit above nine, or a mode 2 count of 1.
+#[tactic(auto, unfolding(interval::specs::Counter::bad_count))]
 fn bad_count(v: u16, k: Counter) -> bool
     ensures { result ≡ Plain.bad_count v k }
 {
@@ -163,93 +165,95 @@ fn bad_count(v: u16, k: Counter) -> bool
 }
 
 // A byte of a count: with both the low byte comes first; a count that is complete is tested, and waits for its load.
-pub fn write_byte(byte: u8, k: Counter) -> CounterAnswer
-    ensures { result ≡ Plain.write_byte byte k }
+#[tactic(auto, unfolding(interval::specs::Counter::write_byte, interval::specs::Counter::begun, interval::specs::Counter::complete, interval::specs::Count::number_of))]
+pub fn write_byte(byte: u8, k: Counter) -> Result<Counter, Refusal>
+    ensures { counter_answered result k ≡ Plain.write_byte byte k }
 {
-    let mut written = k;
     if (k.format == BOTH) & !(k.first == 1) {
-        written.first = 1;
-        written.low = byte;
-        return CounterAnswer {
-            code: PASSED,
-            counter: written,
-        };
+        return Ok(Counter {
+            first: 1,
+            low: byte,
+            ..k
+        });
     }
     let v = whole(byte, k);
     if bad_count(v, k) {
-        return CounterAnswer {
-            code: BAD_COUNT,
-            counter: k,
-        };
+        return Err(Refusal::BadCount);
     }
-    written.output = picked(k.mode == 0, 0, k.output);
-    written.waits = 1;
-    written.first = 0;
-    written.low = 0;
-    written.waiting = picked16(k.bcd == 1, decimal(v), v);
-    CounterAnswer {
-        code: PASSED,
-        counter: written,
-    }
+    Ok(Counter {
+        output: picked(k.mode == 0, 0, k.output),
+        waits: 1,
+        first: 0,
+        low: 0,
+        waiting: picked(k.bcd == 1, decimal(v), v),
+        ..k
+    })
 }
 
-// The two bytes that are shown: of the latch, or of the count as it stands.
+// The two bytes that are shown: of the latch, or of the count as it stands. The ranges are asked for: the record is C's.
+#[tactic(auto, using(interval::proofs::Ranges::within_of, interval::proofs::Ranges::shown_le), unfolding(interval::specs::Counter::shown, interval::specs::Count::shown_as))]
 fn shown(k: Counter) -> u16
     requires { counter_ok k ≡ true }
     ensures { result ≡ Plain.shown k }
 {
-    let n = picked16(k.latched == 1, k.latch, k.count);
+    let n = picked(k.latched == 1, k.latch, k.count);
     if k.bcd == 1 { decades(n) } else { n }
 }
 
 // A byte read: with both, low and high alternate; a latch stays until it is read, with both until its high byte is.
+#[tactic(auto, unfolding(interval::specs::Counter::read_byte, interval::specs::Counter::reads))]
 pub fn read_byte(k: Counter) -> ByteRead
     requires { counter_ok k ≡ true }
     ensures { result ≡ Plain.read_byte k }
 {
-    let v = shown(k);
-    let mut after = k;
+    let [low, high] = shown(k).to_le_bytes();
     if (k.format == BOTH) & !(k.high == 1) {
-        after.high = 1;
         return ByteRead {
-            value: (v & 255) as u8,
-            counter: after,
+            value: low,
+            counter: Counter { high: 1, ..k },
         };
     }
-    after.high = 0;
-    after.latched = 0;
-    after.latch = 0;
     ByteRead {
-        value: picked(k.format == LOW, (v & 255) as u8, (v >> 8) as u8),
-        counter: after,
+        value: picked(k.format == LOW, low, high),
+        counter: Counter {
+            high: 0,
+            latched: 0,
+            latch: 0,
+            ..k
+        },
     }
 }
 
 // A count and an output.
+#[tactic(auto, unfolding(interval::specs::Counter::stands))]
 pub fn stands(n: u16, output: u8, k: Counter) -> Counter
     ensures { result ≡ Plain.stands n output k }
 {
-    let mut r = k;
-    r.count = n;
-    r.output = output;
-    r
+    Counter {
+        count: n,
+        output,
+        ..k
+    }
 }
 
 // A load: the count stands, it is the one to reload, and none waits.
+#[tactic(auto, unfolding(interval::specs::Counter::load))]
 pub fn load(n: u16, output: u8, k: Counter) -> Counter
     ensures { result ≡ Plain.load n output k }
 {
-    let mut r = k;
-    r.count = n;
-    r.output = output;
-    r.loaded = 1;
-    r.reload = n;
-    r.waits = 0;
-    r.waiting = 0;
-    r
+    Counter {
+        count: n,
+        output,
+        loaded: 1,
+        reload: n,
+        waits: 0,
+        waiting: 0,
+        ..k
+    }
 }
 
 // Mode 0 counts: a count is loaded, no first byte of a new one has stopped it, and the gate is high.
+#[tactic(auto, unfolding(interval::specs::Counter::counts0))]
 pub fn counts0(gate: u8, k: Counter) -> bool
     ensures { result ≡ Plain.counts0 gate k }
 {
@@ -257,6 +261,7 @@ pub fn counts0(gate: u8, k: Counter) -> bool
 }
 
 // One pulse in mode 0: a load, or a count that raises the output at 0, or nothing.
+#[tactic(auto, unfolding(interval::specs::Counter::pulse0, interval::specs::Counter::down0))]
 fn pulse0(gate: u8, k: Counter) -> Counter
     ensures { result ≡ Plain.pulse0 gate k }
 {
@@ -271,14 +276,16 @@ fn pulse0(gate: u8, k: Counter) -> Counter
 }
 
 // What a reload loads: the new count where one waits, else the same again.
+#[tactic(auto, unfolding(interval::specs::Counter::again))]
 pub fn again(k: Counter) -> u16
     ensures { result ≡ Plain.again k }
 {
-    picked16(k.waits == 1, k.waiting, k.reload)
+    picked(k.waits == 1, k.waiting, k.reload)
 }
 
 // One pulse in mode 2: the first load, or nothing before it; then a low gate that forces the output high, a reload, or a count that lowers
 // the output at 1.
+#[tactic(auto, unfolding(interval::specs::Counter::pulse2, interval::specs::Counter::reloads, interval::specs::Counter::down2))]
 fn pulse2(gate: u8, k: Counter) -> Counter
     ensures { result ≡ Plain.pulse2 gate k }
 {
@@ -299,14 +306,14 @@ fn pulse2(gate: u8, k: Counter) -> Counter
 }
 
 // One pulse with a gate level.
+#[tactic(auto, unfolding(interval::specs::Counter::pulse, interval::specs::Counter::with_gate))]
 pub fn pulse(gate: u8, k: Counter) -> Counter
     ensures { result ≡ Plain.pulse gate k }
 {
-    let mut r = if k.mode == 0 {
+    let pulsed = if k.mode == 0 {
         pulse0(gate, k)
     } else {
         pulse2(gate, k)
     };
-    r.gate = gate;
-    r
+    Counter { gate, ..pulsed }
 }

@@ -1,8 +1,9 @@
 -- Counting down for any largest count: one count down is a sum modulo the number of counts, and so are n of them. When the output turns.
 use mathlib.Core.Path.{◌≡◌, refl, sym, ap, ◌∙◌}
 use mathlib.Core.Bool.{cond, ◌&&◌, not}
-use Prim.Native.Nat.{ℕ, zero, suc, ◌+◌, ◌*◌, ◌%◌, ◌^◌, ◌<◌, ◌≤◌}
-use native.Mathlib.Nat.{mod-eq_of_lt, mod-add-mod, add-mod_right, suc-mul, mod-lt, mul-le-mul}
+use Prim.Native.Nat.{ℕ, zero, suc, ◌+◌, ◌*◌, ◌%◌, ◌≤◌}
+use native.Mathlib.Nat.{mod-eq_of_lt, mod-add-mod, add-mod_right, suc-mul, add-mod-mod}
+use Rattle.std.proofs.lemmas.Nat.{mul-mod_first}
 use native.Mathlib.Omega.{arith}
 use lib.Dec.{eqb, ltb}
 use borrow.Author.Tests.{eq-eqb, ne_eqb, lt-ltb, le-ltb, ltb-true, ltb-false, eqb-true, eqb-false}
@@ -43,13 +44,11 @@ down_more top n c h =
     sums : (a b : ℕ) → b ≡ a + top → c + top + a ≡ c + b
     sums a b e = omega arith
 
-pub down_le : (top n c : ℕ) → down_by top n c ≤ top
-unfolding down_by
-down_le top n c = let l : down_by top n c < top + 1 = mod-lt (c + n * top) {m = top + 1} (omega arith) in omega arith
-
--- and in 64 bits nothing is lost
-pub bound : (top n : ℕ) → n ≤ 2 ^ 40 → top < 65536 → n * top ≤ 2 ^ 40 * 65535
-bound top n h l = mul-le-mul {n₁ = n} {m₁ = top} {n₂ = 2 ^ 40} {m₂ = 65535} h (omega arith)
+-- whole laps change nothing
+pub down_rest : (top n c : ℕ) → (c + n % (top + 1) * top) % (top + 1) ≡ (c + n * top) % (top + 1)
+down_rest top n c =
+    let m = top + 1 in
+    sym (add-mod-mod c (n % m * top) m) ∙ ap (λ (k : ℕ). (c + k) % m) (mul-mod_first n top m) ∙ add-mod-mod c (n * top) m
 
 -- The output's turns
 
@@ -80,7 +79,3 @@ falls top (suc d) n o z h =
     let e = eqb-false n d t in
     simp (t, ne_eqb (suc n) (suc d) (λ q. e (omega arith)), ne_eqb (suc d) 1 (λ q. e (omega arith)))
     (by_test (eqb n 0) (λ y. simp y) (λ y. simp y))))
-
--- what is left over of a division by a lap is no longer than a jump
-pub rest_le : (x lap : ℕ) → lap < 65536 → x % (lap + 1) ≤ 2 ^ 40
-rest_le x lap h = omega (arith, mod-lt x {m = lap + 1} (omega arith))

@@ -13,7 +13,6 @@ ghost use Rattle.reload.specs.Reload.{idles_at};
 ghost use Rattle.jump.specs.Rounds.{Ready, Crossed, Reached};
 
 use cycle::Run;
-use laws::least;
 
 // What a round passes: how many cycles it has, and the run after them.
 #[derive(Clone, Copy)]
@@ -34,15 +33,13 @@ pub fn one_round(run: Run, pins: u8, left: u64, room: u64) -> Round
             run: cycle::cycle_once(run, pins),
         }
     } else {
-        let used = least(room, left);
-        let sum = run.totals;
-        let after = Run {
-            totals: sum,
-            device: quiet_stride::stride(run.device, pins, used),
-        };
+        let used = room.min(left);
         Round {
-            used: used,
-            run: after,
+            used,
+            run: Run {
+                device: quiet_stride::stride(run.device, pins, used),
+                ..run
+            },
         }
     }
 }
@@ -56,6 +53,8 @@ pub struct Gone {
 }
 
 // n cycles more with one pin byte, round by round, as far as to where Timer 1's reload is all that happens from there on, or to their end.
+// What is asked for, here and of looks, is about a run, its pin byte and n together, so no one type can have it.
+#[tactic(auto, using(crate::proofs::Reached::reached_low))]
 fn rounds_to_idle(from: Run, pins: u8, n: u64) -> Gone
     requires { Ready pins from.device × (n ≤ longest) × Within longest from.totals }
     ensures { Reached pins n from result.run result.left result.rounds × ((result.left ≡ 0) ⊎ (idles_at pins result.run.device ≡ true)) }
@@ -63,25 +62,18 @@ fn rounds_to_idle(from: Run, pins: u8, n: u64) -> Gone
     let mut run = from;
     let mut left = n;
     let mut rounds = 0;
+    // No index: a round passes as many cycles as it can.
     while 0 < left {
         let ahead = quiet::ahead(run.device, pins);
         if reload::idles(run.device, pins, ahead.settled) {
-            return Gone {
-                rounds: rounds,
-                left: left,
-                run: run,
-            };
+            return Gone { rounds, left, run };
         }
         let r = one_round(run, pins, left, ahead.room);
         run = r.run;
         left -= r.used;
         rounds += 1;
     }
-    Gone {
-        rounds: rounds,
-        left: left,
-        run: run,
-    }
+    Gone { rounds, left, run }
 }
 
 // Cycles in a row: how many rounds they took, and the run after them.
@@ -102,20 +94,16 @@ pub fn advance(from: Run, pins: u8, n: u64) -> Advanced
     if gone.left == 0 {
         return Advanced {
             rounds: gone.rounds,
-            run: run,
+            run,
         };
     }
     let idled = reload::idle(run.device, pins, gone.left);
-    let device = idled.device;
-    let after = Run {
-        totals: totals::added(
-            run.totals,
-            reload::idle_totals(run.device.timers, gone.left),
-        ),
-        device: device,
-    };
+    let laps = reload::idle_totals(run.device.timers, gone.left);
     Advanced {
         rounds: gone.rounds + idled.rounds,
-        run: after,
+        run: Run {
+            totals: totals::added(run.totals, laps),
+            device: idled.device,
+        },
     }
 }

@@ -8,6 +8,7 @@ use native.Mathlib.Nat.{pow-suc, mod-lt, zero-lt-suc, mod-eq_of_lt, one-mul, div
 use native.Mathlib.Numerals.{one-add}
 use native.Mathlib.Omega.{arith}
 use lib.Dec.{eqb, ltb}
+use mir.Val.{bool_byte}
 use borrow.Author.Tests.{ltb-true, ltb-false}
 use lib.Pow as P
 use lib.Pow.{pow-lt, pow_pos, pow-add, split, high, low, mod-mod-pow, shl_exact, shr_lt, shr_mod, shr-shr, ones_lt, suc_ones}
@@ -88,6 +89,11 @@ low8 x = and_mask x 8
 
 pub low24 : (x : ℕ) → bit_and x 0xffffff ≡ x % 0x1000000
 low24 x = and_mask x 24
+
+-- `u8::from(b)`
+pub from_bool : (b : Bool) → bool_byte b ≡ cond b 1 0
+from_bool true = refl
+from_bool false = refl
 
 pub ruleset bits = (low1, low2, low3, low4, low5, low8, low24, div-one)
 

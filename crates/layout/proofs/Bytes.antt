@@ -1,14 +1,18 @@
--- Numbers as bytes, low first, for any width: each way back is the other's inverse; and how the two loops go on by a byte.
+-- Numbers as bytes, low first, for any width: each way back is the other's inverse; the library's number of eight bytes; and how `put` goes
+-- on by a byte.
 use Prim.Native.Nat.{ℕ, zero, suc, ◌+◌, ◌-◌, ◌*◌, ◌/◌, ◌%◌, ◌^◌, ◌<◌, ◌≤◌}
 use mathlib.Core.Path.{◌≡◌, refl, sym, ap, ap₂, ◌∙◌}
-use mathlib.Core.List.{List, [], ◌∷◌, ◌++◌}
-use native.Mathlib.Nat.{pow-succ', pow-le-pow_right, sub-zero}
+use mathlib.Core.List.{List, [], ◌∷◌, ◌++◌, append_assoc}
+use native.Mathlib.Nat.{pow-succ', sub-zero}
 use native.Mathlib.Omega.{arith}
-use lib.Dec.{lit<}
-use lib.ListN.{length, get_or, take, drop, set, length-set, drop_of_length-le}
-use lib.Seq.{drop-cons, get_or-take, get_or-drop, length-take-le}
+use lib.ListN.{length, take, drop, set, replicate, take-append-drop}
+use lib.Seq.{length-take-le}
 use Rattle.machine.specs.Checkpoint.{bytes_of, number_of}
+use Rattle.std.specs.Int.{w64, from_le_bytes}
+use borrow.Rule.Slice.PartMut.{put_mid, same_len_mid, mid_len, Post-is}
 use Rattle.laws.specs.Rows.{put}
+use Rattle.laws.proofs.Arrays.{whole}
+use Rattle.laws.proofs.Rows.{put_take, put_drop, put_all}
 use Rattle.layout.specs.Bytes.{Bytes}
 
 pub bytes_length : (width n : ℕ) → length (bytes_of width n) ≡ width
@@ -39,92 +43,78 @@ unfolding Bytes
 bytes_parts [] ys h = (tt, h)
 bytes_parts (x ∷ xs) ys h = let r = bytes_parts xs ys h.1 in ((h.0, r.0), r.1)
 
--- `number`, from the last byte down: what is summed so far
-pub record Summed (chunk : List ℕ) (width i n : ℕ) : Type 0 where
-  pub within : i ≤ width
-  pub sum : n ≡ number_of (drop i chunk)
-  pub below : n < 256 ^ (width - i)
+-- `number`: eight bytes, where zeros stand past those that were read
 
-module _ (file : List ℕ) (at width : ℕ) where
-  abbrev pub chunk : List ℕ
-  chunk = take width (drop at file)
+-- zeros past the bytes change nothing
+zeros_past : (bytes : List ℕ) (k n : ℕ) → number_of (bytes ++ drop k (replicate n 0)) ≡ number_of bytes
+unfolding number_of
+zeros_past (b ∷ bytes) k n = ap (λ (m : ℕ). b + 256 * m) (zeros_past bytes k n)
+zeros_past [] zero zero = refl
+zeros_past [] (suc k) zero = refl
+zeros_past [] zero (suc n) = let e = zeros_past [] zero n in omega arith
+zeros_past [] (suc k) (suc n) = zeros_past [] k n
 
-  module _ (h : at + width ≤ length file) where
-    long : length chunk ≡ width
-    long = length-take-le width (drop at file) (omega (arith, lib.ListN.length-drop at file))
+-- the library's number of eight bytes
+eight : (bytes : List ℕ) → length bytes ≡ 8 → from_le_bytes w64 bytes ≡ number_of bytes
+unfolding number_of
+eight bytes h =
+    let e = whole 0 8 bytes h in
+    rw (sym e) (omega arith)
 
-    pub sum_none : Summed chunk width width 0
-    unfolding number_of
-    sum_none =
-        record {
-          within = omega arith;
-          sum = let l : length chunk ≤ width = omega (arith, long) in ap number_of (sym (drop_of_length-le chunk l));
-          below = let e : width - width ≡ 0 = omega arith in rw e (lit< tt);
-        }
+pub read_so : (bytes : List ℕ) (width : ℕ) → length bytes ≡ width → width ≤ 8
+    → from_le_bytes w64 (put_mid 0 width (replicate 8 0) bytes) ≡ number_of bytes
+read_so bytes width h w =
+    eight _ (same_len_mid 0 width (replicate 8 0) bytes (h ∙ sym (length-take-le width (replicate 8 0) w)))
+    ∙ zeros_past bytes width 8
 
-    module _ (i n : ℕ) (s : Summed chunk width i n) (l : 0 < i) where
-      -- one byte more has room in eight
-      power : 256 ^ (width - (i - 1)) ≡ 256 * 256 ^ (width - i)
-      power = let w = s.within in let e : width - (i - 1) ≡ suc (width - i) = omega arith in ap (λ (k : ℕ). 256 ^ k) e ∙ pow-succ' 256 (width - i)
+-- `put`, byte by byte: what is still to write comes to the number's bytes
+pub record Putting (n : ℕ) (before now : List ℕ) (i left : ℕ) : Type 0 where
+  pub within : i ≤ length before
+  pub rest : put (bytes_of (length before - i) left) i now ≡ bytes_of (length before) n
 
-      pub room : (b : ℕ) → b < 256 → n * 256 + b < 256 ^ (width - (i - 1))
-      room b lb = let p = power in let u = s.below in omega arith
-
-      pub fits : width ≤ 8 → (b : ℕ) → b < 256 → n * 256 + b < 2 ^ 64
-      fits w b lb =
-          let u = room b lb in
-          let p = pow-le-pow_right {n = 256} (lit< tt) {i = width - (i - 1)} {j = 8} (omega arith) in
-          omega arith
-
-      pub inside : at + (i - 1) < length file
-      inside = let w = s.within in omega arith
-
-      pub sum_on : get_or file (at + (i - 1)) 0 < 256 → Summed chunk width (i - 1) (n * 256 + get_or file (at + (i - 1)) 0)
-      unfolding number_of
-      sum_on lb =
-          let w = s.within in
-          let b = get_or file (at + (i - 1)) 0 in
-          let here : get_or chunk (i - 1) 0 ≡ b = get_or-take width (drop at file) (i - 1) 0 (omega arith) ∙ get_or-drop at file (i - 1) 0 in
-          let next : suc (i - 1) ≡ i = omega arith in
-          let cut : drop (i - 1) chunk ≡ b ∷ drop i chunk =
-          drop-cons chunk (i - 1) 0 (omega (arith, long)) ∙ ap₂ (λ (x : ℕ) (k : ℕ). x ∷ drop k chunk) here next in
-          let e = s.sum in
-          record {
-            within = omega arith;
-            sum = omega (arith, ap number_of cut);
-            below = room b lb;
-          }
-
--- `put`, byte by byte: what is still to write comes to what was to be written
-pub record Putting (width at : ℕ) (row before now : List ℕ) (i left : ℕ) : Type 0 where
-  pub within : i ≤ width
-  pub rest : put (bytes_of (width - i) left) (at + i) now ≡ put row at before
-  pub long : length now ≡ length before
-
-module _ (width at n : ℕ) (before : List ℕ) where
-  pub put_none : Putting width at (bytes_of width n) before before 0 n
+module _ (n : ℕ) (before : List ℕ) where
+  pub put_none : Putting n before before 0 n
   put_none =
       record {
         within = omega arith;
-        rest = rw (sub-zero) (ap (λ (k : ℕ). put (bytes_of width n) k before) (omega arith));
-        long = refl;
+        rest = rw (sub-zero) (put_all (bytes_of (length before) n) before (bytes_length (length before) n));
       }
 
-  module _ (now : List ℕ) (i left : ℕ) (p : Putting width at (bytes_of width n) before now i left) where
-    pub put_on : i < width → Putting width at (bytes_of width n) before (set now (at + i) (left % 256)) (i + 1) (left / 256)
+  module _ (now : List ℕ) (i left : ℕ) (p : Putting n before now i left) where
+    pub put_on : i < length before → Putting n before (set now i (left % 256)) (i + 1) (left / 256)
     unfolding put bytes_of
     put_on h =
+        let width = length before in
         let e : width - i ≡ suc (width - (i + 1)) = omega arith in
-        let f : at + i + 1 ≡ at + (i + 1) = omega arith in
-        let r : put (left % 256 ∷ bytes_of (width - (i + 1)) (left / 256)) (at + i) now ≡ put (bytes_of width n) at before = rw e at p.rest in
+        let r : put (left % 256 ∷ bytes_of (width - (i + 1)) (left / 256)) i now ≡ bytes_of width n = rw e at p.rest in
         record {
           within = omega arith;
-          rest = ap (λ (k : ℕ). put (bytes_of (width - (i + 1)) (left / 256)) k (set now (at + i) (left % 256))) (sym f) ∙ r;
-          long = length-set now (at + i) (left % 256) ∙ p.long;
+          rest = r;
         }
 
-    pub put_out : width ≤ i → now ≡ put (bytes_of width n) at before
+    pub put_out : length before ≤ i → now ≡ bytes_of (length before) n
     unfolding put bytes_of
     put_out h =
-        let e : width - i ≡ 0 = omega arith in
+        let e : length before - i ≡ 0 = omega arith in
         rw e at p.rest
+
+-- `put` on a part of a buffer writes the number's bytes into the buffer from there on
+module _ (buffer : List ℕ) (at width : ℕ) (h : at + width ≤ length buffer) where
+  part_long : length (take (at + width - at) (drop at buffer)) ≡ width
+  part_long = mid_len at (at + width) buffer h ∙ omega arith
+
+  row_back : (row : List ℕ) → length row ≡ width → put_mid at (at + width - at) buffer row ≡ put row at buffer
+  row_back row e =
+      let k = at + length row in
+      let l : at + width ≡ k = omega arith in
+      ap (λ (ys : List ℕ). take at buffer ++ (row ++ ys))
+      (Post-is at (at + width) buffer (omega arith) ∙ ap (λ (j : ℕ). drop j buffer) l)
+      ∙ (sym (append_assoc (take at buffer) row (drop k buffer))
+      ∙ ((λ i. sym (put_take row at buffer (omega arith)) i ++ sym (put_drop row at k buffer (omega arith)) i)
+      ∙ take-append-drop k (put row at buffer)))
+
+  pub put_back : (n : ℕ) → put_mid at (at + width - at) buffer (bytes_of (length (take (at + width - at) (drop at buffer))) n)
+      ≡ put (bytes_of width n) at buffer
+  put_back n =
+      ap (λ (k : ℕ). put_mid at (at + width - at) buffer (bytes_of k n)) part_long
+      ∙ row_back (bytes_of width n) (bytes_length width n)

@@ -2,9 +2,8 @@
 // front; and a number as bytes, low first. specs/Checkpoint.antt of `machine` has the layout as a list.
 #![tactic(auto)]
 
-ghost use Rattle.std.specs.Prelude.{◌≡◌, ◌+◌, ◌<◌, ◌≤◌, length, take, drop};
+ghost use Rattle.std.specs.Prelude.{◌≡◌, ◌<◌, ◌≤◌, length};
 ghost use Rattle.machine.specs.Checkpoint.{bytes_of, number_of, width_of};
-ghost use Rattle.laws.specs.Rows.{put};
 ghost use Rattle.layout.specs.Order.{register_count, register_part, number_part, time_part, part_count, part_at, length_of};
 
 use machine::Part;
@@ -24,10 +23,11 @@ fn count(kind: u8) -> u8
 pub fn length(kind: u8) -> usize
     ensures { result ≡ length_of kind }
 {
-    2 * (count(kind) as usize) + 275
+    2 * usize::from(count(kind)) + 275
 }
 
 // The entries of the first section: an address, and a register in one byte.
+#[tactic(auto, unfolding(crate::specs::Order::register_part))]
 fn register_part(n: usize) -> Part
     requires { n < 32 }
     ensures { result ≡ register_part n }
@@ -37,14 +37,12 @@ fn register_part(n: usize) -> Part
         let row = registers::row(place);
         Part::Mark(row[0])
     } else {
-        Part::Value {
-            place: place,
-            width: 1,
-        }
+        Part::Value { place, width: 1 }
     }
 }
 
 // The second section: its count; hidden fields and saved levels, in eight bytes each.
+#[tactic(auto, unfolding(crate::specs::Order::number_part))]
 fn number_part(n: usize) -> Part
     requires { n < 26 }
     ensures { result ≡ number_part n }
@@ -60,22 +58,17 @@ fn number_part(n: usize) -> Part
 }
 
 // The third: its count; of each flag ever in one byte, and the number in eight.
+#[tactic(auto, unfolding(crate::specs::Order::time_part))]
 fn time_part(n: usize) -> Part
     requires { n < 17 }
     ensures { result ≡ time_part n }
 {
     if n == 0 {
-        return Part::Mark(8);
-    }
-    if n % 2 == 1 {
-        Part::Value {
-            place: 40 + n,
-            width: 1,
-        }
+        Part::Mark(8)
     } else {
         Part::Value {
             place: 40 + n,
-            width: 8,
+            width: if n % 2 == 1 { 1 } else { 8 },
         }
     }
 }
@@ -84,10 +77,11 @@ fn time_part(n: usize) -> Part
 pub fn parts(kind: u8) -> usize
     ensures { result ≡ part_count kind }
 {
-    2 * (count(kind) as usize) + 44
+    2 * usize::from(count(kind)) + 44
 }
 
 // A part.
+#[tactic(auto, unfolding(crate::specs::Order::part_at))]
 pub fn part(kind: u8, n: usize) -> Part
     requires { n < part_count kind }
     ensures { result ≡ part_at kind n }
@@ -96,7 +90,7 @@ pub fn part(kind: u8, n: usize) -> Part
     if n == 0 {
         return Part::Mark(registers);
     }
-    let second = 2 * (registers as usize) + 1;
+    let second = 2 * usize::from(registers) + 1;
     if n < second {
         return register_part(n - 1);
     }
@@ -113,34 +107,27 @@ pub fn width_of(p: Part) -> usize
 {
     match p {
         Part::Mark(_) => 1,
-        Part::Value { place: _, width } => width,
+        Part::Value { width, .. } => width,
     }
 }
 
 // The number of bytes that stand low first.
-pub fn number(file: &[u8], at: usize, width: usize) -> u64
-    requires { (at + width ≤ length file.now) × (width ≤ 8) }
-    ensures { result ≡ number_of (take width (drop at file.now)) }
+pub fn number(bytes: &[u8]) -> u64
+    requires { length bytes.now ≤ 8 }
+    ensures { result ≡ number_of bytes.now }
 {
-    let mut i = width;
-    let mut n = 0;
-    while 0 < i {
-        i -= 1;
-        n = n * 256 + (file[at + i] as u64);
-    }
-    n
+    let mut padded = [0; 8];
+    padded[..bytes.len()].copy_from_slice(bytes);
+    u64::from_le_bytes(padded)
 }
 
-// A number as bytes, low first.
-pub fn put(buffer: &mut [u8], at: usize, width: usize, n: u64)
-    requires { at + width ≤ length buffer.old }
-    ensures { buffer.new ≡ put (bytes_of width n) at buffer.old }
+// A number as so many bytes, low first.
+pub fn put(bytes: &mut [u8], n: u64)
+    ensures { bytes.new ≡ bytes_of (length bytes.old) n }
 {
-    let mut i = 0;
     let mut left = n;
-    while i < width {
-        buffer[at + i] = (left % 256) as u8;
-        left = left / 256;
-        i += 1;
+    for byte in bytes {
+        *byte = (left % 256) as u8;
+        left /= 256;
     }
 }

@@ -6,10 +6,7 @@ use lib.Dec.{eqb}
 use Rattle.machine.proofs.Choices.{chosen}
 use Rattle.machine.specs.declared.Device.{Device}
 use Rattle.machine.specs.declared.Answer.{Answer}
-use Rattle.machine.specs.declared.JumpAnswer.{JumpAnswer}
-use Rattle.machine.specs.declared.RunAnswer.{RunAnswer}
-use Rattle.machine.specs.declared.CycleAnswer.{CycleAnswer}
-use Rattle.machine.specs.declared.TakeAnswer.{TakeAnswer}
+use Rattle.machine.specs.Answers.{JumpAnswer, RunAnswer, CycleAnswer, TakeAnswer}
 use Rattle.machine.specs.Registers.{lacks}
 use Rattle.machine.specs.Power.{powered_down}
 use Rattle.machine.specs.Record.{accepted, pins_ok}

@@ -8,8 +8,7 @@ use native.Mathlib.Omega.{arith}
 use lib.Dec.{eqb}
 use borrow.Author.Tests.{eqb-false}
 use Rattle.machine.specs.declared.Totals.{Totals}
-use Rattle.machine.specs.declared.JumpAnswer.{JumpAnswer}
-use Rattle.machine.specs.declared.RunAnswer.{RunAnswer}
+use Rattle.machine.specs.Answers.{JumpAnswer, RunAnswer}
 use Rattle.machine.specs.declared.Device.{Device}
 use Rattle.machine.specs.Record.{accepted, pins_ok}
 use Rattle.machine.specs.Cycle.{cycle_of, cycles}

@@ -8,8 +8,7 @@ use native.Mathlib.Omega.{arith}
 use lib.Dec.{eqb, ltb}
 use borrow.Author.Tests.{ltb-true, ltb-false, eqb-true, eqb-false}
 use Rattle.machine.specs.declared.Device.{Device}
-use Rattle.machine.specs.declared.LookAnswer.{LookAnswer}
-use Rattle.machine.specs.declared.LookAnswer.TheVariants as Look
+use Rattle.machine.specs.Answers.{LookAnswer, LookAnswer as Look}
 use Rattle.machine.specs.Cycle.{cycle_of, cycles}
 use Rattle.machine.specs.Calls.{first_cycle, rises, first_rise, offers_to, wakes, first_offer, cycles_fault, judged_look, look_answer, wake_answer}
 use Rattle.machine.specs.Lists.{Reply, number, reply_of_look}

@@ -10,12 +10,7 @@ use borrow.Author.Tests.{ne_eqb}
 use contract.Lifetimes.{Lfts}
 use denote.Ref.{Bor, MutBor}
 use Rattle.machine.specs.declared.Device.{Device}
-use Rattle.machine.specs.declared.ReadAnswer.{ReadAnswer}
-use Rattle.machine.specs.declared.ReadAnswer.TheVariants as Read
-use Rattle.machine.specs.declared.OfferAnswer.{OfferAnswer}
-use Rattle.machine.specs.declared.OfferAnswer.TheVariants as Offer
-use Rattle.machine.specs.declared.LookAnswer.{LookAnswer}
-use Rattle.machine.specs.declared.LookAnswer.TheVariants as Look
+use Rattle.machine.specs.Answers.{ReadAnswer, OfferAnswer, LookAnswer, ReadAnswer as Read, OfferAnswer as Offer, LookAnswer as Look}
 use Rattle.machine.specs.Calls.{read_answer, look_answer, wake_answer, offer_answer}
 use Rattle.machine.specs.Lists.{Call, Reply, Value, Ran, says, play, run, Start, machine, reply_of_read, reply_of_offer, reply_of_look}
 use Rattle.machine.specs.Lists.Value.{numbers, none}

@@ -7,10 +7,10 @@ use native.Mathlib.Nat.{sub-zero, zero-add, min-le_left, min-le_right}
 use native.Mathlib.Omega.{arith}
 use lib.ListN.{length, drop, take, set, get_or, length-append, take-append-drop}
 use lib.Seq.{get_or-drop, drop-drop}
+use borrow.Rule.Slice.PartMut.{put_mid, Post-is}
 use Rattle.machine.specs.declared.Device.{Device}
 use Rattle.machine.specs.Lists.{Call, Reply, Ran, play, run}
-use Rattle.calls.specs.declared.Shown.{Shown}
-use Rattle.calls.specs.Row.{call_of, most_numbers, answer_words, count_of, numbers_of, padded, row_of, shown}
+use Rattle.calls.specs.Row.{call_of, most_numbers, answer_words, count_of, numbers_of, padded, row_of}
 use Rattle.lists.specs.Script.{Script, call_words, first_call, calls_in, calls_of, rows_of, written, rows, Answered}
 use Rattle.laws.specs.Rows.{put}
 use Rattle.laws.proofs.Rows.{put_length, put_take, put_drop}
@@ -83,7 +83,7 @@ module _ (all : List Reply) (before now : List ℕ) (i : ℕ) where
       let e : i * answer_words + 0 ≡ i * answer_words = omega arith in
       sym (take-append-drop (i * answer_words) now) ∙ (ap (λ (k : ℕ). take (i * answer_words) now ++ drop k now) (sym e) ∙ w)
 
--- the code stores the words of a row one by one
+-- the words of a row; stored one by one they are the row in its place
 words : (r : Reply)
     → row_of r
     ≡ get_or (row_of r) 0 0 ∷ get_or (row_of r) 1 0 ∷ get_or (row_of r) 2 0 ∷ get_or (row_of r) 3 0 ∷ get_or (row_of r) 4 0 ∷ get_or (row_of r) 5 0 ∷ []
@@ -120,6 +120,21 @@ stored_is r at xs =
     (set (set (set (set (set xs at (get_or row 0 0)) (at + 1) (get_or row 1 0)) (e i) (get_or row 2 0)) (f i) (get_or row 3 0)) (g i) (get_or row 4 0))
     (h i) (get_or row 5 0))
     ∙ sym (ap (λ (ws : List ℕ). put ws at xs) (words r))
+
+-- the code copies a row into its place
+copied_is : (row : List ℕ) (at : ℕ) (xs : List ℕ) → at + length row ≤ length xs
+    → take at xs ++ (row ++ drop (at + length row) xs) ≡ put row at xs
+copied_is row at xs h =
+    let k = at + length row in
+    sym (append_assoc (take at xs) row (drop k xs))
+    ∙ ((λ i. sym (put_take row at xs h) i ++ sym (put_drop row at k xs (omega arith)) i) ∙ take-append-drop k (put row at xs))
+
+pub put_back_is : (row : List ℕ) (at : ℕ) (xs : List ℕ) → length row ≡ answer_words → at + answer_words ≤ length xs
+    → put_mid at (at + answer_words - at) xs row ≡ put row at xs
+put_back_is row at xs e h =
+    let long : at + answer_words ≡ at + length row = omega arith in
+    ap (λ (ys : List ℕ). take at xs ++ (row ++ ys)) (Post-is at (at + answer_words) xs (omega arith) ∙ ap (λ (k : ℕ). drop k xs) long)
+    ∙ copied_is row at xs (omega arith)
 
 -- the whole list
 abbrev whole : Script → List ℕ → Device → Ran
@@ -166,12 +181,13 @@ module _ (s : Script) (n : ℕ) (d₀ : Device) (before : List ℕ) where
           answers = written_on all before now i _ _ (let l = w.long in let r = w.room in omega arith) (rw on at w.answers);
         }
 
-    pub played_on : {p : Shown} → i < n → p ≡ shown (play (call_at s i) d)
-        → Halfway s n d₀ before (stored p.row (i * answer_words) now) p.device (i + 1)
-    unfolding run
-    played_on {p} h e =
-        rw (e, stored_is (play (call_at s i) d).reply (i * answer_words) now)
-        (played_row h)
+    pub played_on : {row : List ℕ} {e : Device} → i < n → row ≡ row_of (play (call_at s i) d).reply → e ≡ (play (call_at s i) d).device
+        → Halfway s n d₀ before (put_mid (i * answer_words) (i * answer_words + answer_words - i * answer_words) now row) e (i + 1)
+    played_on {row} h r e =
+        let long : length row ≡ answer_words = ap length r ∙ row_long (play (call_at s i) d).reply in
+        let l = w.long in
+        let room = w.room in
+        rw (put_back_is row (i * answer_words) now long (omega arith), r, e) (played_row h)
 
     pub played_out : n ≤ i → Answered (whole s before d₀) d before now
     unfolding run

@@ -1,18 +1,15 @@
 -- Demand 3: a whole list of public calls against the plain machine of document 01, and what a look ahead and a wake look answer.
 -- No promise is written out here: `Learnt` is what the check reads off a function's contract, and what a caller of it learns.
-use Rattle.std.specs.Prelude.{ℕ, ◌-◌, ◌*◌, ◌≤◌, ◌<◌, ◌≡◌, Bool, true, false, List, [], ◌∷◌, ◌++◌, length, drop}
+use Rattle.std.specs.Prelude.{ℕ, ◌-◌, ◌*◌, ◌≤◌, ◌<◌, ◌≡◌, Bool, true, false, List, [], ◌∷◌, ◌++◌, length, drop, Option, Result, Ok}
 use base.Fml.{Lft}
 use Rattle.std.specs.Borrow.{Bor, MutBor}
 use Rattle.machine.specs.declared.Device.{Device}
 use Rattle.machine.specs.declared.Answer.{Answer}
-use Rattle.machine.specs.declared.JumpAnswer.{JumpAnswer}
-use Rattle.machine.specs.declared.RunAnswer.{RunAnswer}
-use Rattle.machine.specs.declared.CycleAnswer.{CycleAnswer}
-use Rattle.machine.specs.declared.TakeAnswer.{TakeAnswer}
-use Rattle.machine.specs.declared.ReadAnswer.{ReadAnswer}
-use Rattle.machine.specs.declared.OfferAnswer.{OfferAnswer}
-use Rattle.machine.specs.declared.LookAnswer.{LookAnswer}
-use Rattle.machine.specs.declared.LookAnswer.TheVariants as Look
+use Rattle.machine.specs.declared.Totals.{Totals}
+use Rattle.machine.specs.declared.Jumped.{Jumped}
+use Rattle.machine.specs.declared.refusals.Refusal.{Refusal}
+use Rattle.machine.specs.Answers.{LookAnswer, LookAnswer as Look}
+use Rattle.machine.specs.Outcomes.{code_of, answered, cycle_answered, jump_answered, run_answered, take_answered, read_answered, offer_answered, look_answered}
 use Rattle.machine.specs.Cycle.{cycles}
 use Rattle.machine.specs.Calls.{rises, offers_to}
 use Rattle.machine.specs.Lists.{Call, Value, Reply, Played, Ran, ran, run, Start, machine, played, number, reply_of, reply_of_jump, reply_of_run, reply_of_cycle, reply_of_take, reply_of_read, reply_of_offer, reply_of_look}
@@ -34,42 +31,42 @@ use Rattle.c51_interrupt.proofs.offer.Reads as offer-reads
 use Rattle.c51_interrupt.proofs.take.Reads as take-reads
 use Rattle.c51_interrupt.proofs.reti.Reads as return-reads
 
--- A call on a device: the reply and the device after it, as the public function's contract promises them.
--- Reads, offers and looks hand back no device: they alter nothing
+-- A call on a device: the reply and the device after it, as the public function's contract promises them. A call that alters the device
+-- is lent it; reads, offers and looks are given a copy, and alter nothing
 pub data Kept : Call → Device → Played → Type 0 where
-  reset : {kind : ℕ} {d : Device} {r : Answer}
-      → reset-reads.Learnt tt (kind, tt) r (kind, tt)
-      → Kept (Call.reset kind) d (played (reply_of r) r.device)
-  read : {a : ℕ} {d : Device} {r : ReadAnswer}
+  reset : (κ : Lft) (d e : MutBor Device) {kind : ℕ} (r : Result (Unit {0}) Refusal)
+      → reset-reads.Learnt (κ, tt) (d, (kind, tt)) r (e, (kind, tt))
+      → Kept (Call.reset kind) d.now (played (reply_of (answered r e.now)) e.now)
+  read : {a : ℕ} {d : Device} (r : Result ℕ Refusal)
       → read-reads.Learnt tt (d, (a, tt)) r (d, (a, tt))
-      → Kept (Call.read a) d (played (reply_of_read r) d)
-  write : {a v : ℕ} {d : Device} {r : Answer}
-      → write-reads.Learnt tt (d, (a, (v, tt))) r (d, (a, (v, tt)))
-      → Kept (Call.write a v) d (played (reply_of r) r.device)
-  cycle : {pins : ℕ} {d : Device} {r : CycleAnswer}
-      → cycle-reads.Learnt tt (d, (pins, tt)) r (d, (pins, tt))
-      → Kept (Call.cycle pins) d (played (reply_of_cycle r) r.device)
-  jump : {pins n : ℕ} {d : Device} {r : JumpAnswer}
-      → jump-reads.Learnt tt (d, (pins, (n, tt))) r (d, (pins, (n, tt)))
-      → Kept (Call.jump pins n) d (played (reply_of_jump r) r.device)
-  trace : (κ : Lft) (es : Bor (List ℕ)) {d : Device} {r : RunAnswer}
-      → trace-reads.Learnt (κ, tt) (d, (es, tt)) r (d, (es, tt))
-      → Kept (Call.trace es.now) d (played (reply_of_run r) r.device)
-  look : {pins n : ℕ} {d : Device} {r : LookAnswer}
+      → Kept (Call.read a) d (played (reply_of_read (read_answered r)) d)
+  write : (κ : Lft) (d e : MutBor Device) {a v : ℕ} (r : Result (Unit {0}) Refusal)
+      → write-reads.Learnt (κ, tt) (d, (a, (v, tt))) r (e, (a, (v, tt)))
+      → Kept (Call.write a v) d.now (played (reply_of (answered r e.now)) e.now)
+  cycle : (κ : Lft) (d e : MutBor Device) {pins : ℕ} (r : Result ℕ Refusal)
+      → cycle-reads.Learnt (κ, tt) (d, (pins, tt)) r (e, (pins, tt))
+      → Kept (Call.cycle pins) d.now (played (reply_of_cycle (cycle_answered r e.now)) e.now)
+  jump : (κ : Lft) (d e : MutBor Device) {pins n : ℕ} (r : Result Jumped Refusal)
+      → jump-reads.Learnt (κ, tt) (d, (pins, (n, tt))) r (e, (pins, (n, tt)))
+      → Kept (Call.jump pins n) d.now (played (reply_of_jump (jump_answered r e.now)) e.now)
+  trace : (κ ι : Lft) (d e : MutBor Device) (es : Bor (List ℕ)) (r : Result Totals Refusal)
+      → trace-reads.Learnt (κ, (ι, tt)) (d, (es, tt)) r (e, (es, tt))
+      → Kept (Call.trace es.now) d.now (played (reply_of_run (run_answered r e.now)) e.now)
+  look : {pins n : ℕ} {d : Device} (r : Result (Option ℕ) Refusal)
       → look-reads.Learnt tt (d, (pins, (n, tt))) r (d, (pins, (n, tt)))
-      → Kept (Call.look pins n) d (played (reply_of_look r) d)
-  offer : {d : Device} {r : OfferAnswer}
+      → Kept (Call.look pins n) d (played (reply_of_look (look_answered r)) d)
+  offer : {d : Device} (r : Result (Option ℕ) Refusal)
       → offer-reads.Learnt tt (d, tt) r (d, tt)
-      → Kept Call.offer d (played (reply_of_offer r) d)
-  take : {d : Device} {r : TakeAnswer}
-      → take-reads.Learnt tt (d, tt) r (d, tt)
-      → Kept Call.take d (played (reply_of_take r) r.device)
-  return : {d : Device} {r : Answer}
-      → return-reads.Learnt tt (d, tt) r (d, tt)
-      → Kept Call.return d (played (reply_of r) r.device)
-  wake : {pins n : ℕ} {d : Device} {r : LookAnswer}
+      → Kept Call.offer d (played (reply_of_offer (offer_answered r)) d)
+  take : (κ : Lft) (d e : MutBor Device) (r : Result ℕ Refusal)
+      → take-reads.Learnt (κ, tt) (d, tt) r (e, tt)
+      → Kept Call.take d.now (played (reply_of_take (take_answered r e.now)) e.now)
+  return : (κ : Lft) (d e : MutBor Device) (r : Result (Unit {0}) Refusal)
+      → return-reads.Learnt (κ, tt) (d, tt) r (e, tt)
+      → Kept Call.return d.now (played (reply_of (answered r e.now)) e.now)
+  wake : {pins n : ℕ} {d : Device} (r : Result (Option ℕ) Refusal)
       → wake-reads.Learnt tt (d, (pins, (n, tt))) r (d, (pins, (n, tt)))
-      → Kept (Call.wake pins n) d (played (reply_of_look r) d)
+      → Kept (Call.wake pins n) d (played (reply_of_look (look_answered r)) d)
 
 -- A list of calls, each on the device as the one before left it: all replies, and the device at the end
 pub data Chained : List Call → Device → List Reply → Device → Type 0 where
@@ -77,26 +74,27 @@ pub data Chained : List Call → Device → List Reply → Device → Type 0 whe
   then : {c : Call} {cs : List Call} {d : Device} {p : Played} {rs : List Reply} {last : Device}
       → Kept c d p → Chained cs p.device rs last → Chained (c ∷ cs) d (p.reply ∷ rs) last
 
--- Where a list starts: the answer of a reset, or of a load of any file, as the contract promises it
+-- Where a list starts: the answer of a reset, or of a load of any file, as the contract promises it, over any device that is lent
 pub data Started : Start → Answer → Type 0 where
-  reset : {kind : ℕ} {a : Answer} → reset-reads.Learnt tt (kind, tt) a (kind, tt) → Started (Start.from_reset kind) a
-  load : (κ : Lft) (file : Bor (List ℕ)) {a : Answer}
-      → load-reads.Learnt (κ, tt) (file, tt) a (file, tt) → Started (Start.from_file file.now) a
+  reset : (κ : Lft) (d e : MutBor Device) {kind : ℕ} (r : Result (Unit {0}) Refusal)
+      → reset-reads.Learnt (κ, tt) (d, (kind, tt)) r (e, (kind, tt)) → Started (Start.from_reset kind) (answered r e.now)
+  load : (κ ι : Lft) (d e : MutBor Device) (file : Bor (List ℕ)) (r : Result (Unit {0}) Refusal)
+      → load-reads.Learnt (κ, (ι, tt)) (d, (file, tt)) r (e, (file, tt)) → Started (Start.from_file file.now) (answered r e.now)
 
 -- No public call asks anything of its caller
 pub record AsksNothing : Type 0 where
-  pub resets : (kind : ℕ) → reset-reads.Asked tt (kind, tt)
+  pub resets : (κ : Lft) (d : MutBor Device) (kind : ℕ) → reset-reads.Asked (κ, tt) (d, (kind, tt))
   pub reads : (d : Device) (a : ℕ) → read-reads.Asked tt (d, (a, tt))
-  pub writes : (d : Device) (a v : ℕ) → write-reads.Asked tt (d, (a, (v, tt)))
+  pub writes : (κ : Lft) (d : MutBor Device) (a v : ℕ) → write-reads.Asked (κ, tt) (d, (a, (v, tt)))
   pub saves : (κ : Lft) (d : Device) (buffer : MutBor (List ℕ)) → save-reads.Asked (κ, tt) (d, (buffer, tt))
-  pub loads : (κ : Lft) (file : Bor (List ℕ)) → load-reads.Asked (κ, tt) (file, tt)
-  pub cycles : (d : Device) (pins : ℕ) → cycle-reads.Asked tt (d, (pins, tt))
-  pub jumps : (d : Device) (pins n : ℕ) → jump-reads.Asked tt (d, (pins, (n, tt)))
-  pub traces : (κ : Lft) (d : Device) (es : Bor (List ℕ)) → trace-reads.Asked (κ, tt) (d, (es, tt))
+  pub loads : (κ ι : Lft) (d : MutBor Device) (file : Bor (List ℕ)) → load-reads.Asked (κ, (ι, tt)) (d, (file, tt))
+  pub cycles : (κ : Lft) (d : MutBor Device) (pins : ℕ) → cycle-reads.Asked (κ, tt) (d, (pins, tt))
+  pub jumps : (κ : Lft) (d : MutBor Device) (pins n : ℕ) → jump-reads.Asked (κ, tt) (d, (pins, (n, tt)))
+  pub traces : (κ ι : Lft) (d : MutBor Device) (es : Bor (List ℕ)) → trace-reads.Asked (κ, (ι, tt)) (d, (es, tt))
   pub looks : (d : Device) (pins n : ℕ) → look-reads.Asked tt (d, (pins, (n, tt)))
   pub offers : (d : Device) → offer-reads.Asked tt (d, tt)
-  pub takes : (d : Device) → take-reads.Asked tt (d, tt)
-  pub returns : (d : Device) → return-reads.Asked tt (d, tt)
+  pub takes : (κ : Lft) (d : MutBor Device) → take-reads.Asked (κ, tt) (d, tt)
+  pub returns : (κ : Lft) (d : MutBor Device) → return-reads.Asked (κ, tt) (d, tt)
   pub wakes : (d : Device) (pins n : ℕ) → wake-reads.Asked tt (d, (pins, (n, tt)))
 
 -- What the looks ask, of the cycles that a pin byte makes from d: a flag rises in cycle k, counted from 1; an interrupt is offered
@@ -158,25 +156,25 @@ pub record Demand3 : Type 0 where
       → Started start a → Chained cs a.device rs last → ran rs last ≡ machine start cs
   -- a list that is cut anywhere by a move, saved on one computer and loaded on another: every reply, and the device at the end, are
   -- those of the list without the move
-  pub moved : {before after : List Call} {d saved last : Device} {earlier later : List Reply} (κ ι : Lft) {code : ℕ} {a : Answer}
-      (buffer filled : MutBor (List ℕ)) (file : Bor (List ℕ)) → Chained before d earlier saved → Sized saved
-      → save-reads.Learnt (κ, tt) (saved, (buffer, tt)) code (saved, (filled, tt)) → code ≡ 0 → file.now ≡ filled.now
-      → load-reads.Learnt (ι, tt) (file, tt) a (file, tt) → Chained after a.device later last
+  pub moved : {before after : List Call} {d saved last : Device} {earlier later : List Reply} (κ ι μ : Lft)
+      (s r : Result (Unit {0}) Refusal) (x y : MutBor Device) (buffer filled : MutBor (List ℕ)) (file : Bor (List ℕ)) → Chained before d earlier saved → Sized saved
+      → save-reads.Learnt (κ, tt) (saved, (buffer, tt)) s (saved, (filled, tt)) → s ≡ Ok tt → file.now ≡ filled.now
+      → load-reads.Learnt (ι, (μ, tt)) (x, (file, tt)) r (y, (file, tt)) → Chained after y.now later last
       → ran (earlier ++ later) last ≡ run (before ++ after) d
   -- every list makes such a chain, refused calls included
   pub every_list : (cs : List Call) (d : Device) → Chained cs d (run cs d).replies (run cs d).device
   pub asks_nothing : AsksNothing
   -- a look ahead that passes names k exactly when cycle k is the first of the n in which a flag rises, and none exactly when there
   -- is none
-  pub looks : (d : Device) (pins n : ℕ) (answer : LookAnswer)
-      → look-reads.Learnt tt (d, (pins, (n, tt))) answer (d, (pins, (n, tt))) → (reply_of_look answer).code ≡ 0
-      → Looks 1 n (rises_in pins d) answer
+  pub looks : (d : Device) (pins n : ℕ) (r : Result (Option ℕ) Refusal)
+      → look-reads.Learnt tt (d, (pins, (n, tt))) r (d, (pins, (n, tt))) → code_of r ≡ 0
+      → Looks 1 n (rises_in pins d) (look_answered r)
   pub looks_in_lists : (pins n : ℕ) → ToldInLists (Call.look pins n) (λ d. Tells 1 n (rises_in pins d))
   -- a wake look that passes names k exactly when k is the first from 0 to n after which an interrupt is offered, and none exactly when
   -- there is none
-  pub wakes : (d : Device) (pins n : ℕ) (answer : LookAnswer)
-      → wake-reads.Learnt tt (d, (pins, (n, tt))) answer (d, (pins, (n, tt))) → (reply_of_look answer).code ≡ 0
-      → Looks 0 n (offered_after pins d) answer
+  pub wakes : (d : Device) (pins n : ℕ) (r : Result (Option ℕ) Refusal)
+      → wake-reads.Learnt tt (d, (pins, (n, tt))) r (d, (pins, (n, tt))) → code_of r ≡ 0
+      → Looks 0 n (offered_after pins d) (look_answered r)
   pub wakes_in_lists : (pins n : ℕ) → ToldInLists (Call.wake pins n) (λ d. Tells 0 n (offered_after pins d))
   -- every list whose arguments fit their types is spelled by a script, where its slices can be addressed
   pub spelled : (cs : List Call) → Each Fits cs → Addressable 8 (length cs * call_words) → Addressable 4 (length (lent_of cs))

@@ -17,31 +17,19 @@ pub const CALL_WORDS: usize = 3;
 fn rows_of(calls: usize, answers: usize) -> usize
     ensures { result ≡ min (calls / call_words) (answers / answer_words) }
 {
-    let given = calls / CALL_WORDS;
-    let room = answers / ANSWER_WORDS;
-    if given <= room { given } else { room }
+    (calls / CALL_WORDS).min(answers / ANSWER_WORDS)
 }
 
 // A whole script from any device. What lies past its answers stays.
 pub fn replay(d: Device, calls: &[u64], lent: &[u32], answers: &mut [u64]) -> Device
     ensures { Replayed d (script calls.now lent.now) answers.old result answers.new }
 {
-    let n = rows_of(calls.len(), answers.len());
     let mut at = d;
-    let mut i = 0;
-    while i < n {
+    for i in 0..rows_of(calls.len(), answers.len()) {
         let from = i * CALL_WORDS;
-        let p = calls::play_one(at, calls[from], calls[from + 1], calls[from + 2], lent);
-        let row = p.row;
+        let row = calls::play_one(&mut at, calls[from], calls[from + 1], calls[from + 2], lent);
         let to = i * ANSWER_WORDS;
-        answers[to] = row[0];
-        answers[to + 1] = row[1];
-        answers[to + 2] = row[2];
-        answers[to + 3] = row[3];
-        answers[to + 4] = row[4];
-        answers[to + 5] = row[5];
-        at = p.device;
-        i += 1;
+        answers[to..to + ANSWER_WORDS].copy_from_slice(&row);
     }
     at
 }
@@ -50,8 +38,8 @@ pub fn replay(d: Device, calls: &[u64], lent: &[u32], answers: &mut [u64]) -> De
 pub fn replay_from_reset(kind: u8, calls: &[u64], lent: &[u32], answers: &mut [u64]) -> Device
     ensures { ReplayedFrom (from_reset kind) (script calls.now lent.now) answers.old result answers.new }
 {
-    let a = c51_access::reset(kind);
-    let d = a.device;
+    let mut d = record::zeros();
+    let _ = c51_access::reset(&mut d, kind);
     replay(d, calls, lent, answers)
 }
 
@@ -59,7 +47,7 @@ pub fn replay_from_reset(kind: u8, calls: &[u64], lent: &[u32], answers: &mut [u
 pub fn replay_from_file(file: &[u8], calls: &[u64], lent: &[u32], answers: &mut [u64]) -> Device
     ensures { ReplayedFrom (from_file file.now) (script calls.now lent.now) answers.old result answers.new }
 {
-    let a = c51_checkpoint::load(file);
-    let d = a.device;
+    let mut d = record::zeros();
+    let _ = c51_checkpoint::load(&mut d, file);
     replay(d, calls, lent, answers)
 }

@@ -1,8 +1,7 @@
 -- The answers of looks as numbers for C: a refused call gives its number and zeros.
 use Rattle.std.specs.Prelude.{ℕ}
 use Rattle.machine.specs.declared.Device.{Device}
-use Rattle.machine.specs.declared.LookAnswer.{LookAnswer}
-use Rattle.machine.specs.declared.LookAnswer.TheVariants as Look
+use Rattle.machine.specs.Answers.{LookAnswer, LookAnswer as Look}
 use Rattle.machine.specs.Calls.{look_answer, wake_answer}
 use Rattle.looked.specs.declared.LookedAnswer.{LookedAnswer}
 

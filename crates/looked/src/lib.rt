@@ -2,12 +2,13 @@
 #![tactic(auto)]
 
 ghost use Rattle.std.specs.Prelude.{◌≡◌};
+ghost use Rattle.machine.specs.Outcomes.{look_answered};
 ghost use Rattle.looked.specs.Looked.{looked_of};
 
-use machine::LookAnswer;
+use machine::refusals::Refusal;
 
 // A look's code, 1 where it finds what it looks for, and the cycle in which a flag first rises, or after which an interrupt is first
-// offered.
+// offered. C has no Result: 0 or the number, and zeros.
 #[repr(C)]
 #[derive(Clone, Copy)]
 pub struct LookedAnswer {
@@ -16,22 +17,22 @@ pub struct LookedAnswer {
     pub at: u64,
 }
 
-// What a look answers.
-pub fn looked(a: LookAnswer) -> LookedAnswer
-    ensures { result ≡ looked_of a }
+// What a look gives, for C: a refused one its number and zeros.
+pub fn looked(a: Result<Option<u64>, Refusal>) -> LookedAnswer
+    ensures { result ≡ looked_of (look_answered a) }
 {
     match a {
-        LookAnswer::Refused(k) => LookedAnswer {
-            code: k,
+        Err(e) => LookedAnswer {
+            code: e.number(),
             found: 0,
             at: 0,
         },
-        LookAnswer::At(n) => LookedAnswer {
+        Ok(Some(n)) => LookedAnswer {
             code: 0,
             found: 1,
             at: n,
         },
-        LookAnswer::Nothing => LookedAnswer {
+        Ok(None) => LookedAnswer {
             code: 0,
             found: 0,
             at: 0,

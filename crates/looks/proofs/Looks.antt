@@ -7,8 +7,8 @@ use native.Mathlib.Nat.{zero-add, suc-add, add-zero}
 use native.Mathlib.Numerals.{add-one}
 use native.Mathlib.Omega.{arith}
 use Rattle.machine.specs.declared.Device.{Device}
-use Rattle.machine.specs.declared.LookAnswer.{LookAnswer}
-use Rattle.machine.specs.declared.LookAnswer.TheVariants.{At, Nothing}
+use Rattle.machine.specs.Answers.{LookAnswer}
+use Rattle.machine.specs.Answers.LookAnswer.{At, Nothing}
 use Rattle.machine.specs.Record.{pins_of}
 use Rattle.machine.specs.Flags.{flags, any_rises}
 use Rattle.machine.specs.Cycle.{cycle_of, cycles}
@@ -20,6 +20,7 @@ use Rattle.strides.specs.Stride.{room}
 use Rattle.strides.proofs.Runs.{cycles_one}
 use Rattle.strides.proofs.Strides.{cycle_room}
 use Rattle.strides.proofs.Silent.{Silent, quiet_silent}
+use Rattle.looks.specs.Tests.{FlagTest, Still}
 use Rattle.reload.proofs.Alone.{Idle}
 use Rattle.reload.proofs.Runs.{cycle_idle, cycle_silent}
 
@@ -47,6 +48,17 @@ Asleep d = offers_to d ≡ false
 
 pub hears_wakes : Hears wakes Asleep
 hears_wakes = record { silence = λ d e s p. s.offers ∙ p; goes_on = λ d e f. f }
+
+-- a test that reads no more than the flags and what is offered, from a device of which it finds nothing yet
+pub of_test : {finds : Device → Device → Bool} → FlagTest finds → Hears finds (Still finds)
+of_test t = record { silence = λ d e s p. t.stays d e s.flags s.offers ∙ p; goes_on = t.goes_on }
+
+pub rises_test : FlagTest rises
+rises_test =
+    record {
+      stays = λ d e same still. ap (any_rises (flags d)) same;
+      goes_on = λ d e f. none_rises (flags e);
+    }
 
 -- The next cycle
 

@@ -3,8 +3,8 @@ use Prim.Native.Nat.{ℕ, zero, suc}
 use mathlib.Core.Path.{◌≡◌, refl, ap, ◌∙◌}
 use mathlib.Core.Bool.{Bool, cond}
 use Rattle.machine.specs.declared.Device.{Device}
-use Rattle.machine.specs.declared.LookAnswer.{LookAnswer}
-use Rattle.machine.specs.declared.LookAnswer.TheVariants.{At}
+use Rattle.machine.specs.Answers.{LookAnswer}
+use Rattle.machine.specs.Answers.LookAnswer.{At}
 use Rattle.machine.specs.Record.{pins_of}
 use Rattle.machine.specs.Cycle.{cycle_of}
 use Rattle.machine.specs.Calls.{first_cycle, first_rise, offers_to, wakes, first_offer}

@@ -2,82 +2,82 @@
 // overflow totals. `pins` is the pin byte as the kind takes it.
 #![tactic(auto)]
 
-ghost use Rattle.std.specs.Prelude.{◌≡◌, ◌≤◌};
-ghost use Rattle.machine.specs.Calls.{longest, first_rise, first_offer};
+ghost use Rattle.std.specs.Prelude.{◌≡◌, ◌≤◌, Bool};
+ghost use Rattle.machine.specs.Calls.{longest, first_cycle, rises, first_rise, first_offer};
+ghost use Rattle.machine.specs.Outcomes.{found};
 ghost use Rattle.jump.specs.Rounds.{Ready};
+ghost use Rattle.looks.specs.Tests.{FlagTest, Still};
 
 use cycle::Run;
-use machine::{Device, LookAnswer};
+use flags::FlagRegisters;
+use machine::Device;
 
-// The first of n cycles in which a flag rises, or none, by the same rounds. Where Timer 1's reload is all that happens, and
-// in a quiet run to the end, none rises.
-pub fn first_rise(d: Device, pins: u8, n: u64) -> LookAnswer
-    requires { Ready pins d × (n ≤ longest) }
-    ensures { result ≡ first_rise n pins d }
+// The first of n cycles that a test of the device before it and after it finds, or none, by the rounds of a jump. From a device to itself
+// the test finds nothing.
+// Where Timer 1's reload is all that happens, and in a quiet run to the end, as in power-down, none is.
+fn first_found<F: Fn(&Device, &Device) -> bool>(
+    d: Device,
+    pins: u8,
+    n: u64,
+    finds: F,
+) -> Option<u64>
+    requires callable { F.IsAlwaysCallable finds }
+    requires ready { Ready pins d }
+    requires within { n ≤ longest }
+    ensures { (test : Device → Device → Bool) → FlagTest test → Still test d
+        → ((before after : _) (r : Bool) → F.post finds before after r → r ≡ test before.now after.now)
+        → found result ≡ first_cycle test 0 n pins d }
 {
     let mut at = d;
     let mut done = 0;
+    // No index: a round passes as many cycles as it can.
     while done < n {
         let ahead = quiet::ahead(at, pins);
         if reload::idles(at, pins, ahead.settled) {
-            return LookAnswer::Nothing;
+            return None;
         }
         let left = n - done;
         if ahead.room >= left {
-            return LookAnswer::Nothing;
+            return None;
         }
         let from = Run {
             totals: totals::none(),
             device: at,
         };
         let r = jump::one_round(from, pins, left, ahead.room);
-        let e = r.run.device;
         done += r.used;
-        if flags::any_rises(
-            at.timers.tcon,
-            at.serial.scon,
-            at.timer2.t2con,
-            e.timers.tcon,
-            e.serial.scon,
-            e.timer2.t2con,
-        ) {
-            return LookAnswer::At(done);
+        if finds(&at, &r.run.device) {
+            return Some(done);
         }
-        at = e;
+        at = r.run.device;
     }
-    LookAnswer::Nothing
+    None
 }
 
-// The first k from 0 to n after which an interrupt is offered, or none, by the same rounds: 0 where one is offered already. Where
-// Timer 1's reload is all that happens, and in a quiet run to the end, as in power-down, none comes.
-pub fn first_offer(d: Device, pins: u8, n: u64) -> LookAnswer
+// A flag rises in a cycle.
+fn rises(before: &Device, after: &Device) -> bool
+    ensures { result ≡ rises before.now after.now }
+{
+    flags::any_rises(FlagRegisters::of(before), FlagRegisters::of(after))
+}
+
+// The first of n cycles in which a flag rises, or none.
+pub fn first_rise(d: Device, pins: u8, n: u64) -> Option<u64>
     requires { Ready pins d × (n ≤ longest) }
-    ensures { result ≡ first_offer n pins d }
+    ensures { found result ≡ first_rise n pins d }
+{
+    first_found(d, pins, n, rises)
+}
+
+// The first k from 0 to n after which an interrupt is offered, or none: 0 where one is offered already.
+pub fn first_offer(d: Device, pins: u8, n: u64) -> Option<u64>
+    requires { Ready pins d × (n ≤ longest) }
+    ensures { found result ≡ first_offer n pins d }
 {
     if interrupts::offers(d.pcon, d.interrupts) {
-        return LookAnswer::At(0);
+        return Some(0);
     }
-    let mut at = d;
-    let mut k = 0;
-    while k < n {
-        let ahead = quiet::ahead(at, pins);
-        if reload::idles(at, pins, ahead.settled) {
-            return LookAnswer::Nothing;
-        }
-        let left = n - k;
-        if left <= ahead.room {
-            return LookAnswer::Nothing;
-        }
-        let from = Run {
-            totals: totals::none(),
-            device: at,
-        };
-        let r = jump::one_round(from, pins, left, ahead.room);
-        at = r.run.device;
-        k += r.used;
-        if interrupts::offers(at.pcon, at.interrupts) {
-            return LookAnswer::At(k);
-        }
-    }
-    LookAnswer::Nothing
+    first_found(d, pins, n, |_before: &Device, after: &Device| {
+        interrupts::offers(after.pcon, after.interrupts)
+    })
 }

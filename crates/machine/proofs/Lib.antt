@@ -1,4 +1,5 @@
 pub mod Choices
+pub mod Outcomes
 pub mod Accepted
 pub mod Counting
 pub mod Overflowing

@@ -9,16 +9,7 @@ use Rattle.machine.specs.declared.Interrupts.{Interrupts}
 use Rattle.machine.specs.declared.Device.{Device}
 use Rattle.machine.specs.declared.Totals.{Totals}
 use Rattle.machine.specs.declared.Answer.{Answer}
-use Rattle.machine.specs.declared.JumpAnswer.{JumpAnswer}
-use Rattle.machine.specs.declared.RunAnswer.{RunAnswer}
-use Rattle.machine.specs.declared.CycleAnswer.{CycleAnswer}
-use Rattle.machine.specs.declared.TakeAnswer.{TakeAnswer}
-use Rattle.machine.specs.declared.ReadAnswer.{ReadAnswer}
-use Rattle.machine.specs.declared.ReadAnswer.TheVariants as Read
-use Rattle.machine.specs.declared.OfferAnswer.{OfferAnswer}
-use Rattle.machine.specs.declared.OfferAnswer.TheVariants as Offer
-use Rattle.machine.specs.declared.LookAnswer.{LookAnswer}
-use Rattle.machine.specs.declared.LookAnswer.TheVariants as Look
+use Rattle.machine.specs.Answers.{JumpAnswer, RunAnswer, CycleAnswer, TakeAnswer, ReadAnswer, OfferAnswer, LookAnswer, ReadAnswer as Read, OfferAnswer as Offer, LookAnswer as Look}
 use Rattle.machine.specs.Bits.{field}
 use Rattle.machine.specs.Registers.{PCON, TCON, TMOD, TL0, TL1, TH0, TH1, SCON, SBUF, IE, IP, T2CON, RCAP2L, RCAP2H, TL2, TH2, lacks, kept}
 use Rattle.machine.specs.Power.{powered_down, awoken}

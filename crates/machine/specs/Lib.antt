@@ -14,7 +14,9 @@ pub mod Cycle
 pub mod Totals
 pub mod Rounds
 pub mod Rollovers
+pub mod Answers
 pub mod Calls
+pub mod Outcomes
 pub mod Checkpoint
 pub mod Lists
 pub mod Replies

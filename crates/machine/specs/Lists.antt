@@ -5,16 +5,7 @@ use Rattle.std.specs.Prelude.{ℕ, List, [], ◌∷◌, ◌++◌}
 use Rattle.machine.specs.declared.Device.{Device}
 use Rattle.machine.specs.declared.Totals.{Totals}
 use Rattle.machine.specs.declared.Answer.{Answer}
-use Rattle.machine.specs.declared.JumpAnswer.{JumpAnswer}
-use Rattle.machine.specs.declared.RunAnswer.{RunAnswer}
-use Rattle.machine.specs.declared.CycleAnswer.{CycleAnswer}
-use Rattle.machine.specs.declared.TakeAnswer.{TakeAnswer}
-use Rattle.machine.specs.declared.ReadAnswer.{ReadAnswer}
-use Rattle.machine.specs.declared.ReadAnswer.TheVariants as Read
-use Rattle.machine.specs.declared.OfferAnswer.{OfferAnswer}
-use Rattle.machine.specs.declared.OfferAnswer.TheVariants as Offer
-use Rattle.machine.specs.declared.LookAnswer.{LookAnswer}
-use Rattle.machine.specs.declared.LookAnswer.TheVariants as Look
+use Rattle.machine.specs.Answers.{JumpAnswer, RunAnswer, CycleAnswer, TakeAnswer, ReadAnswer, OfferAnswer, LookAnswer, ReadAnswer as Read, OfferAnswer as Offer, LookAnswer as Look}
 use Rattle.machine.specs.Calls.{reset_answer, read_answer, write_answer, cycle_answer, jump_answer, trace_answer, look_answer, offer_answer, take_answer, return_answer, wake_answer}
 use Rattle.machine.specs.Checkpoint.{load_answer}
 

@@ -2,7 +2,7 @@
 -- it; the theorems of crates/laws/proofs/Sleep.antt are stated with it.
 use Rattle.std.specs.Prelude.{ℕ, ◌≡◌, List, [], ◌∷◌}
 use Rattle.machine.specs.declared.Device.{Device}
-use Rattle.machine.specs.declared.LookAnswer.TheVariants as Look
+use Rattle.machine.specs.Answers.{LookAnswer as Look}
 use Rattle.machine.specs.Bits.{set_bit}
 use Rattle.machine.specs.Registers.{IDL}
 use Rattle.machine.specs.Interrupts.{offered}

@@ -3,7 +3,7 @@ use Rattle.std.specs.Prelude.{ℕ, ◌-◌, ◌^◌, Bool, true, false, cond, �
 use Rattle.machine.specs.declared.FlagTimes.{FlagTimes}
 
 -- what a cycle leaves of a list with a place for each flag: the new value where the flag rises, otherwise what stood there
-unfoldable pub noted : ℕ → List Bool → List ℕ → List ℕ
+unfoldable pub noted : {A : Type 0} → A → List Bool → List A → List A
 noted new [] old = old
 noted new (r ∷ rs) [] = []
 noted new (r ∷ rs) (x ∷ old) = cond r new x ∷ noted new rs old

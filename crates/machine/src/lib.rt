@@ -1,4 +1,4 @@
-// The types of the plain machine: the device record and its parts, what a step hands on, and the answers of the calls.
+// The types of the plain machine: the device record and its parts, what a step hands on, and what the calls give.
 // What the chip does is said in specs/, a file for each section of document 01.
 #![tactic(auto)]
 
@@ -81,7 +81,7 @@ pub struct Interrupts {
 }
 
 // When each of the eight flags last rose, in the order TF0, TF1, IE0, IE1, RI, TI, TF2, EXF2: 1 where it ever did since reset, and the
-// cycle number after the cycle in which it last did.
+// cycle number after the cycle in which it last did. Two arrays, as C has the record.
 #[repr(C)]
 #[derive(Clone, Copy)]
 pub struct FlagTimes {
@@ -169,7 +169,7 @@ pub struct Ticks {
     pub half: u8,
 }
 
-// The answer of reset, write and return: 0 or the refusal's number, and the device.
+// The answer of reset, write, return and load, as C is given it, which has no Result: 0 or the refusal's number, and the device.
 #[repr(C)]
 #[derive(Clone, Copy)]
 pub struct Answer {
@@ -177,60 +177,11 @@ pub struct Answer {
     pub device: Device,
 }
 
-// The answer of a jump: 0, the overflow totals and the rounds, or the refusal's number and zeros; and the device.
+// What a jump gives: the overflow totals and the rounds.
 #[derive(Clone, Copy)]
-pub struct JumpAnswer {
-    pub code: u8,
+pub struct Jumped {
     pub totals: Totals,
     pub rounds: u64,
-    pub device: Device,
-}
-
-// The answer of a trace run: 0 and the overflow totals, or the refusal's number and zeros; and the device.
-#[derive(Clone, Copy)]
-pub struct RunAnswer {
-    pub code: u8,
-    pub totals: Totals,
-    pub device: Device,
-}
-
-// The answer of a cycle: 0 and the output line, or the refusal's number and 0; and the device.
-#[derive(Clone, Copy)]
-pub struct CycleAnswer {
-    pub code: u8,
-    pub line: u8,
-    pub device: Device,
-}
-
-// The answer of a take: 0 and the vector, or the refusal's number and 0; and the device.
-#[derive(Clone, Copy)]
-pub struct TakeAnswer {
-    pub code: u8,
-    pub vector: u8,
-    pub device: Device,
-}
-
-// The answer of a read.
-#[derive(Clone, Copy)]
-pub enum ReadAnswer {
-    Refused(u8),
-    Value(u8),
-}
-
-// The answer of an offer.
-#[derive(Clone, Copy)]
-pub enum OfferAnswer {
-    Refused(u8),
-    Vector(u8),
-    Nothing,
-}
-
-// The answer of a look ahead and of a wake look.
-#[derive(Clone, Copy)]
-pub enum LookAnswer {
-    Refused(u8),
-    At(u64),
-    Nothing,
 }
 
 // A part of a checkpoint: a byte that can only be this one, a count or an address; or the value of a place, in so many bytes.

@@ -4,28 +4,15 @@
 
 ghost use Rattle.std.specs.Prelude.{◌≡◌, false};
 ghost use Rattle.machine.specs.Power.{powered_down};
-ghost use Rattle.machine.specs.Record.{levels_of};
 ghost use Rattle.machine.specs.Timers as Step;
-ghost use Rattle.machine.specs.Same.{same};
 ghost use Rattle.strides.specs.Stride as Stride;
 
-use laws::{least, pair13, pair16};
-use machine::places::{CT2, IE0, IE1, INT0, INT1, IT0, IT1, RXD, T0, T1, T2, T2EX, TR2};
+use laws::Pair;
+use machine::places::{CT2, IE0, IE1, INT0, INT1, IT0, IT1, RXD, TR2};
 use machine::{Device, Interrupts, LONGEST, Serial, Timer2, Timers};
 
-// The saved levels are those of the pins.
-fn same_levels(saved: [u8; 7], l: u8) -> bool
-    ensures { result ≡ same saved (levels_of l) }
-{
-    (saved[0] == ((l >> RXD) & 1))
-        & ((saved[1] == ((l >> INT0) & 1))
-            & ((saved[2] == ((l >> INT1) & 1))
-                & ((saved[3] == ((l >> T0) & 1))
-                    & ((saved[4] == ((l >> T1) & 1))
-                        & ((saved[5] == ((l >> T2) & 1)) & (saved[6] == ((l >> T2EX) & 1)))))))
-}
-
 // No due mark, and IEi of a level-triggered input is 1 - L.
+#[tactic(auto, using(laws::proofs::Bits::bits), unfolding(strides::specs::Stride::timers_settled))]
 fn settled_timers(l: u8, t: Timers) -> bool
     ensures { result ≡ Stride.timers_settled l t }
 {
@@ -35,6 +22,7 @@ fn settled_timers(l: u8, t: Timers) -> bool
 }
 
 // Both directions rest, and the next cycle finds no start bit: serial mode 2 ticks in every cycle.
+#[tactic(auto, unfolding(strides::specs::Stride::serial_settled))]
 fn settled_serial(rxd: u8, s: Serial) -> bool
     ensures { result ≡ Stride.serial_settled rxd s }
 {
@@ -50,6 +38,7 @@ fn settled_interrupts(now: u8, i: Interrupts) -> bool
 }
 
 // The device, which is not in power-down, is settled: a cycle without overflows finds nothing to do. The serial port is asked first.
+#[tactic(auto, using(laws::proofs::Bits::bits, crate::proofs::Same::same_is), unfolding(strides::specs::Stride::settled_at, strides::specs::Stride::others_settled))]
 fn settled(d: Device, l: u8) -> bool
     requires { powered_down d.pcon ≡ false }
     ensures { result ≡ Stride.settled_at l d }
@@ -58,26 +47,29 @@ fn settled(d: Device, l: u8) -> bool
     if !settled_serial((l >> RXD) & 1, s) {
         return false;
     }
-    let saved = d.levels;
     let t = d.timers;
     let u = d.timer2;
     let i = d.interrupts;
     let flags = interrupts::seen_of(t.tcon, s.scon, u.t2con);
-    (same_levels(saved, l) & settled_timers(l, t)) & ((u.due2 == 0) & settled_interrupts(flags, i))
+    let same_levels = d.levels == cycle::levels_of(l);
+    (same_levels & settled_timers(l, t)) & ((u.due2 == 0) & settled_interrupts(flags, i))
 }
 
 // The counts of a timer's pair before the one that overflows, in its mode: of 13 bits, of 16 bits, or of TL's 8.
-fn left_in(mode: u8, tl: u8, th: u8) -> u16
-    ensures { result ≡ Stride.left_in mode tl th }
+#[tactic(auto, unfolding(strides::specs::Stride::left_in))]
+fn left_in(mode: u8, p: Pair) -> u16
+    ensures { result ≡ Stride.left_in mode p.tl p.th }
 {
+    // A number: two bits of TMOD, and each of the four values is a mode.
     match mode {
-        0 => 0x1fff - pair13(tl, th),
-        1 => 0xffff - pair16(tl, th),
-        _ => 0xff - (tl as u16),
+        0 => 0x1fff - p.of13(),
+        1 => 0xffff - p.of16(),
+        _ => 0xff - (p.tl as u16),
     }
 }
 
 // Timer 1 moves in a quiet cycle: in mode 3 it holds.
+#[tactic(auto, unfolding(strides::specs::Stride::moves1))]
 pub fn moves1(t: Timers, l: u8) -> bool
     ensures { result ≡ Stride.moves1 t l }
 {
@@ -85,11 +77,11 @@ pub fn moves1(t: Timers, l: u8) -> bool
 }
 
 // The room of a timer's pair in its mode: of one that does not count a jump's most cycles.
-fn room_of(counts: bool, mode: u8, tl: u8, th: u8) -> u64
-    ensures { result ≡ Stride.room_of counts (Stride.left_in mode tl th) }
+fn room_of(counts: bool, mode: u8, p: Pair) -> u64
+    ensures { result ≡ Stride.room_of counts (Stride.left_in mode p.tl p.th) }
 {
     if counts {
-        left_in(mode, tl, th) as u64
+        left_in(mode, p) as u64
     } else {
         LONGEST
     }
@@ -107,15 +99,25 @@ fn room_high0(t: Timers) -> u64
 }
 
 // The room of Timer 0, of TH0 in mode 3 and of Timer 1.
+#[tactic(auto, unfolding(strides::specs::Stride::room_timers))]
 fn room_timers(l: u8, t: Timers) -> u64
     ensures { result ≡ Stride.room_timers l t }
 {
-    let low = room_of(timers::counts0(t, l), timers::timer0_mode(t), t.tl0, t.th0);
-    let one = room_of(moves1(t, l), timers::timer1_mode(t), t.tl1, t.th1);
-    least(low, least(room_high0(t), one))
+    let pair0 = Pair {
+        tl: t.tl0,
+        th: t.th0,
+    };
+    let pair1 = Pair {
+        tl: t.tl1,
+        th: t.th1,
+    };
+    let low = room_of(timers::counts0(t, l), timers::timer0_mode(t), pair0);
+    let one = room_of(moves1(t, l), timers::timer1_mode(t), pair1);
+    low.min(room_high0(t).min(one))
 }
 
 // Timer 2 moves in a quiet cycle: running, as a timer.
+#[tactic(auto, using(laws::proofs::Bits::bits), unfolding(strides::specs::Stride::moves2))]
 pub fn moves2(t: Timer2) -> bool
     ensures { result ≡ Stride.moves2 t }
 {
@@ -123,11 +125,12 @@ pub fn moves2(t: Timer2) -> bool
 }
 
 // The cycles of Timer 2 before the one in which it overflows: it counts six times a cycle with RCLK or TCLK set.
+#[tactic(auto, unfolding(strides::specs::Stride::left2))]
 fn left2(t: Timer2) -> u16
     ensures { result ≡ Stride.left2 t }
 {
-    let left = 0xffff - pair16(t.tl2, t.th2);
-    laws::picked16(timer2::baud_rate(t), left / 6, left)
+    let left = 0xffff - timer2::count2(t);
+    laws::picked(timer2::baud_rate(t), left / 6, left)
 }
 
 // The room of Timer 2.
@@ -146,6 +149,7 @@ pub struct Outlook {
     pub room: u64,
 }
 
+#[tactic(auto, unfolding(strides::specs::Stride::room_at, strides::specs::Stride::awake_room, strides::specs::Stride::settled_at, strides::specs::Stride::others_settled))]
 pub fn ahead(d: Device, l: u8) -> Outlook
     ensures { (result.settled ≡ Stride.settled_at l d) × (result.room ≡ Stride.room_at l d) }
 {
@@ -160,7 +164,7 @@ pub fn ahead(d: Device, l: u8) -> Outlook
         let u = d.timer2;
         Outlook {
             settled: true,
-            room: least(room_timers(l, t), room2(u)),
+            room: room_timers(l, t).min(room2(u)),
         }
     } else {
         Outlook {

@@ -23,23 +23,26 @@ left_below mode tl th = go (eqb mode 0) (eqb mode 1)
     go false true = omega arith
     go false false = omega arith
 
--- Timer 2 where it moves: it has room for m cycles of `each` counts, six with RCLK or TCLK set
-pub each_fits : (t : Timer2) {m each : ℕ} {moves baud : Bool}
-    → moves ≡ moves2 t → moves ≡ true → each ≡ cond baud 6 1 → baud ≡ baud_rate t → m ≤ room2 t
-    → (m * each ≤ left 16 (count2 t)) × (m < 65536)
+pub left2_below : (t : Timer2) → left2 t < 65536
 unfolding left2
-each_fits t {m} {each} {moves} {baud} p q e f h =
-    go baud e (subst (λ (six : Bool). m ≤ cond six (left 16 (count2 t) / 6) (left 16 (count2 t))) (sym f) (counting (sym p ∙ q) h))
+left2_below t = go (baud_rate t)
   where
-    go : (six : Bool) → each ≡ cond six 6 1 → m ≤ cond six (left 16 (count2 t) / 6) (left 16 (count2 t))
-        → (m * each ≤ left 16 (count2 t)) × (m < 65536)
-    go true e h = (rw e (omega arith), omega arith)
-    go false e h = (rw e (omega arith), omega arith)
+    go : (six : Bool) → cond six (left 16 (count2 t) / 6) (left 16 (count2 t)) < 65536
+    go true = omega arith
+    go false = omega arith
 
-pub each_counts : (m : ℕ) (t : Timer2) {each : ℕ} {moves baud : Bool}
-    → moves ≡ moves2 t → moves ≡ true → each ≡ cond baud 6 1 → baud ≡ baud_rate t → m * each ≡ counts2 m t
+-- Timer 2 where it moves: it has room for m cycles of one count, or of six with RCLK or TCLK set
+pub each_fits : (m : ℕ) (t : Timer2) → moves2 t ≡ true → m ≤ room2 t → m * cond (baud_rate t) 6 1 ≤ left 16 (count2 t)
+unfolding left2
+each_fits m t e h = go (baud_rate t) (counting e h)
+  where
+    go : (six : Bool) → m ≤ cond six (left 16 (count2 t) / 6) (left 16 (count2 t)) → m * cond six 6 1 ≤ left 16 (count2 t)
+    go true h = omega arith
+    go false h = omega arith
+
+pub each_counts : (m : ℕ) (t : Timer2) → moves2 t ≡ true → m * cond (baud_rate t) 6 1 ≡ counts2 m t
 unfolding counts2
-each_counts m t p q e f = rw (e, f, sym p ∙ q) (go (baud_rate t))
+each_counts m t e = rw e (go (baud_rate t))
   where
     go : (six : Bool) → m * cond six 6 1 ≡ cond six (m * 6) m
     go true = refl

@@ -74,7 +74,7 @@ fn levels_ok(l: [u8; 7]) -> bool
 fn held(ever: u8, number: u64) -> u64
     ensures { result ≡ cond (eqb ever 0) number 0 }
 {
-    laws::picked64(ever == 0, number, 0)
+    laws::picked(ever == 0, number, 0)
 }
 
 // Each of the eight pairs says ever with any number, or never with 0: no ever is above 1, and beside no never stands a number.

@@ -1,12 +1,10 @@
--- The table by its rows: a row has the implemented bits at its address, by a test that is computed at each row; and an address that no
--- row has is lacking, by induction on the rows.
-use mathlib.Core.Path.{◌≡◌, refl, sym, ◌∙◌}
+-- The table by its rows: a row has the implemented bits at its address, by a test that is computed at each row.
+use mathlib.Core.Path.{◌≡◌, refl, ◌∙◌}
 use mathlib.Core.Bool.{Bool, true, false, cond}
 use mathlib.Core.List.{List, [], ◌∷◌}
 use Prim.Native.Nat.{ℕ, ◌<◌}
 use lib.Dec.{T, eqb, eqb→eq}
 use lib.ListN.{get_or}
-use borrow.Author.Tests.{ne_eqb}
 use Rattle.machine.specs.Registers.{Row, table, implemented_in, implemented}
 use Rattle.laws.proofs.Tests.{all, at}
 use Rattle.registers.specs.Places.{row_at, address_at}
@@ -37,19 +35,3 @@ unfolding implemented
 row_bits kind n h =
     let old = eqb kind 51 in
     eqb→eq (bits_at old n) _ (at (agrees old) 16 (tested old) n h) ∙ column kind old refl table (address_at n)
-
--- an address is none of these rows', said as the last arm of a match says it: after what was said of the rows before
-abbrev pub Outside : ℕ → List Row → Type 0 → Type 0
-Outside a [] said = said
-Outside a (r ∷ rows) said = Outside a rows (said × (a ≡ r.address → ⊥))
-
-before : (a : ℕ) (rows : List Row) (said : Type 0) → Outside a rows said → said
-before a [] said h = h
-before a (r ∷ rows) said h = (before a rows (said × (a ≡ r.address → ⊥)) h).0
-
-pub lacking : (kind a : ℕ) (rows : List Row) (said : Type 0) → Outside a rows said → implemented_in rows kind a ≡ 0
-unfolding implemented_in
-lacking kind a [] said h = refl
-lacking kind a (r ∷ rows) said h =
-    let other = (before a rows (said × (a ≡ r.address → ⊥)) h).1 in
-    rw (ne_eqb r.address a (λ e. other (sym e))) (lacking kind a rows (said × (a ≡ r.address → ⊥)) h)

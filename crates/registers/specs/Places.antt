@@ -1,11 +1,11 @@
--- What the code's table, its registers and its places mean: a row is the definitions' row, a register is the one at the address of its
--- row, and a place is what the definitions say of an address.
-use Rattle.std.specs.Prelude.{ℕ, ◌≡◌, true, false, List, [], ◌∷◌, map, get_or}
+-- What the code's table and its registers mean: a row is the definitions' row, a register is the one at the address of its row, and what
+-- is found at an address is what the definitions say of it.
+use Rattle.std.specs.Prelude.{ℕ, ◌≡◌, true, false, List, [], ◌∷◌, map, get_or, Result, Ok, Err}
+use Rattle.machine.specs.declared.refusals.Refusal.{Refusal}
+use Rattle.machine.specs.declared.refusals.Refusal.TheVariants.{BadAddress}
 use Rattle.machine.specs.Registers.{Row, table, implemented, lacks}
 use Rattle.registers.specs.declared.Register.{Register}
 use Rattle.registers.specs.declared.Register.TheVariants.{Pcon, Tcon, Tmod, Tl0, Tl1, Th0, Th1, Scon, Sbuf, Ie, Ip, T2con, Rcap2l, Rcap2h, Tl2, Th2}
-use Rattle.registers.specs.declared.Place.{Place}
-use Rattle.registers.specs.declared.Place.TheVariants.{At, Refused}
 
 -- row n of the table, as the code has it: the address, and the implemented bits on kind 51 and on kind 52
 unfoldable pub row_at : ℕ → List ℕ
@@ -43,11 +43,11 @@ pub record Stands (kind a : ℕ) (r : Register) (m : ℕ) : Type 0 where
   pub has : lacks kind a ≡ false
 
 -- the kind lacks an address, which is refusal 3
-pub record Lacks (kind a n : ℕ) : Type 0 where
-  pub number : n ≡ 3
+pub record Lacks (kind a : ℕ) (e : Refusal) : Type 0 where
+  pub refusal : e ≡ BadAddress
   pub none : lacks kind a ≡ true
 
 -- what stands at an address
-abbrev pub Found : ℕ → ℕ → Place → Type 0
-Found kind a (At r m) = Stands kind a r m
-Found kind a (Refused n) = Lacks kind a n
+abbrev pub Found : ℕ → ℕ → Result (Register × ℕ) Refusal → Type 0
+Found kind a (Ok x) = Stands kind a x.0 x.1
+Found kind a (Err e) = Lacks kind a e

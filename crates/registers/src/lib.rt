@@ -7,7 +7,7 @@ ghost use Rattle.machine.specs.Calls as Calls;
 ghost use Rattle.registers.specs.Places.{row_at, address_at, address_of, Found};
 
 use machine::Device;
-use machine::refusals::BAD_ADDRESS;
+use machine::refusals::Refusal;
 
 // The addresses.
 const PCON: u8 = 0x87;
@@ -63,7 +63,7 @@ const TABLE: [[u8; 3]; 16] = [
 ];
 
 // A register of the chip.
-#[derive(Clone, Copy)]
+#[derive(Clone, Copy, Debug, PartialEq, Eq)]
 pub enum Register {
     Pcon,
     Tcon,
@@ -83,14 +83,8 @@ pub enum Register {
     Th2,
 }
 
-// What stands at an address: a register with the implemented bits that the kind has there, or the refusal.
-#[derive(Clone, Copy)]
-pub enum Place {
-    At(Register, u8),
-    Refused(u8),
-}
-
 // A row of the table.
+#[tactic(auto, unfolding(crate::specs::Places::row_at, machine::specs::Registers::table))]
 pub fn row(n: usize) -> [u8; 3]
     requires { n < 16 }
     ensures { result ≡ row_at n }
@@ -100,6 +94,7 @@ pub fn row(n: usize) -> [u8; 3]
 }
 
 // The implemented bits on a kind by a row of the table.
+#[tactic(auto, using(crate::proofs::Table::row_bits))]
 fn mask(kind: u8, n: usize) -> u8
     requires { n < 16 }
     ensures { result ≡ Table.implemented kind (address_at n) }
@@ -132,22 +127,23 @@ pub fn implemented(kind: u8, r: Register) -> u8
     }
 }
 
-// A register, unless the kind lacks it.
-fn present(kind: u8, r: Register) -> Place
+// A register with the implemented bits that the kind has there, unless the kind lacks it.
+fn present(kind: u8, r: Register) -> Result<(Register, u8), Refusal>
     ensures { Found kind (address_of r) result }
 {
     let bits = implemented(kind, r);
     if bits == 0 {
-        Place::Refused(BAD_ADDRESS)
-    } else {
-        Place::At(r, bits)
+        return Err(Refusal::BadAddress);
     }
+    Ok((r, bits))
 }
 
-// What stands at an address that a caller gives.
-pub fn find(kind: u8, address: u8) -> Place
+// What stands at an address that a caller gives: a register with the implemented bits that the kind has there.
+#[tactic(auto, using(std::proofs::lemmas::Bool::Decides::nat_tests), unfolding(crate::specs::Places::row_at, machine::specs::Registers::table, machine::specs::Registers::implemented, machine::specs::Registers::implemented_in))]
+pub fn find(kind: u8, address: u8) -> Result<(Register, u8), Refusal>
     ensures { Found kind address result }
 {
+    // The one place that tells registers by their addresses.
     match address {
         PCON => present(kind, Register::Pcon),
         TCON => present(kind, Register::Tcon),
@@ -165,12 +161,12 @@ pub fn find(kind: u8, address: u8) -> Place
         RCAP2H => present(kind, Register::Rcap2h),
         TL2 => present(kind, Register::Tl2),
         TH2 => present(kind, Register::Th2),
-        0x00..=0x86 | 0x8e..=0x97 | 0x9a..=0xa7 | 0xa9..=0xb7 | 0xb9..=0xc7 | 0xc9 | 0xce..=0xff =>
-            Place::Refused(BAD_ADDRESS),
+        _ => Err(Refusal::BadAddress),
     }
 }
 
 // The value of a register: of SBUF the received byte.
+#[tactic(auto, unfolding(crate::specs::Places::row_at, machine::specs::Registers::table, machine::specs::Calls::register_at, machine::specs::Calls::value_in, machine::specs::Record::registers))]
 pub fn value_of(d: Device, r: Register) -> u8
     ensures { result ≡ Calls.register_at d (address_of r) }
 {
@@ -195,6 +191,7 @@ pub fn value_of(d: Device, r: Register) -> u8
 }
 
 // The device with a register stored: SCON and SBUF do what the serial section says.
+#[tactic(auto, unfolding(crate::specs::Places::row_at, machine::specs::Registers::table, machine::specs::Calls::stored))]
 pub fn stored(d: Device, r: Register, v: u8) -> Device
     ensures { result ≡ Calls.stored d (address_of r) v }
 {

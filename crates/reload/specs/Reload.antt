@@ -14,7 +14,7 @@ use Rattle.machine.specs.Rounds.{rounds_of}
 use Rattle.stretch.specs.Stretch.{lapped}
 use Rattle.strides.specs.Stride.{settled_at, with_parts}
 use Rattle.reload.specs.declared.Clocking.{Clocking}
-use Rattle.reload.specs.declared.Lap.{Lap}
+use Rattle.reload.specs.declared.lap.Lap.{Lap}
 
 -- Here l is the pin byte as the kind takes it.
 
@@ -148,8 +148,3 @@ pub record Rounded (k : Clocking) (x : Idling) (left used : ℕ) (y : Idling) : 
 
 abbrev pub unwound : Lap → Idling
 unwound x = record { tl1 = 255 - x.room; th1 = 255 - x.full; half = x.half; counter = x.counter; sample = x.sample }
-
-pub record Lapped (x : Lap) : Type 0 where
-  pub room : x.room ≤ 255
-  pub full : x.full ≤ 255
-  pub half : x.half ≤ 1

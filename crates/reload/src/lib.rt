@@ -6,11 +6,15 @@ ghost use Rattle.std.specs.Prelude.{◌≡◌, ◌+◌, ◌≤◌};
 ghost use Rattle.strides.specs.Stride.{settled_at};
 ghost use Rattle.reload.specs.Reload as Reload;
 
-use laws::{least, picked};
+pub mod lap;
+
+use lap::Lap;
+use laws::picked;
 use machine::places::{RCLK, RXD, SMOD, TCLK, TF1, TR2};
-use machine::{Device, Serial, Timers, Totals};
+use machine::{Device, Receiver, Sender, Serial, Timers, Totals};
 
 // Timer 1 alone counts, in mode 2, and its overflow raises no flag.
+#[tactic(auto, using(laws::proofs::Bits::bits), unfolding(crate::specs::Reload::timer1_alone))]
 fn timer1_alone(l: u8, t: Timers) -> bool
     ensures { result ≡ Reload.timer1_alone l t }
 {
@@ -20,6 +24,7 @@ fn timer1_alone(l: u8, t: Timers) -> bool
 }
 
 // No ticks but those of overflows, and none of them finds a start bit.
+#[tactic(auto, unfolding(crate::specs::Reload::line_rests))]
 fn line_rests(rxd: u8, s: Serial) -> bool
     ensures { result ≡ Reload.line_rests rxd s }
 {
@@ -27,6 +32,7 @@ fn line_rests(rxd: u8, s: Serial) -> bool
 }
 
 // In a settled device Timer 1's reload is all that happens, Timer 2 not running. Whether it is settled, the caller has asked.
+#[tactic(auto, using(laws::proofs::Bits::bits), unfolding(crate::specs::Reload::idles_at, crate::specs::Reload::reload_only))]
 pub fn idles(d: Device, l: u8, settled: bool) -> bool
     requires { settled ≡ settled_at l d }
     ensures { result ≡ Reload.idles_at l d }
@@ -52,23 +58,15 @@ pub struct Clocking {
     pub receives: bool,
 }
 
-// What it works on: the last line sample, the send counter and half, and of TL1 the counts before it reloads, now and in a whole lap.
-#[derive(Clone, Copy)]
-pub struct Lap {
-    pub sample: u8,
-    pub counter: u8,
-    pub half: u8,
-    pub full: u64,
-    pub room: u64,
-}
-
 // Timer 1's overflows clock a direction, whose clock bit is handed in.
+#[tactic(auto, unfolding(crate::specs::Reload::clocks))]
 fn clocks(scon: u8, clock: u8) -> bool
     ensures { result ≡ Reload.clocks scon clock }
 {
     !(ticks::mode_of(scon) == 0) & !(clock == 1)
 }
 
+#[tactic(auto, using(laws::proofs::Bits::bits), unfolding(crate::specs::Reload::clocking_of))]
 fn clocking_of(d: Device, l: u8) -> Clocking
     ensures { result ≡ Reload.clocking_of l d }
 {
@@ -79,8 +77,8 @@ fn clocking_of(d: Device, l: u8) -> Clocking
     Clocking {
         smod: (d.pcon >> SMOD) & 1,
         rxd: (l >> RXD) & 1,
-        sends: sends,
-        receives: receives,
+        sends,
+        receives,
     }
 }
 
@@ -93,13 +91,11 @@ fn left_of(tl1: u8) -> u64
 
 fn lap_of(d: Device) -> Lap
     requires { d.serial.half ≤ 1 }
-    ensures { (Reload.unwound result ≡ Reload.idling_of d) × Reload.Lapped result }
+    ensures { Reload.unwound result ≡ Reload.idling_of d }
 {
-    let room = left_of(d.timers.tl1);
-    let full = left_of(d.timers.th1);
     Lap {
-        room: room,
-        full: full,
+        room: left_of(d.timers.tl1),
+        full: left_of(d.timers.th1),
         half: d.serial.half,
         counter: d.serial.send.counter,
         sample: d.serial.receive.sample,
@@ -108,38 +104,52 @@ fn lap_of(d: Device) -> Lap
 
 // The reload: a tick with SMOD = 1, and with SMOD = 0 where half is 1; half flips with SMOD = 0. SMOD and half are bits. A tick adds 1 to the
 // send counter and takes RXD into the last line sample.
+#[tactic(auto, using(laws::proofs::Bits::bits, crate::proofs::Laps::tick_is, crate::proofs::Laps::half_is, crate::proofs::Laps::half_bit), unfolding(crate::specs::Reload::reloaded))]
 fn reloaded(k: Clocking, x: Lap) -> Lap
-    requires { (k.smod ≤ 1) × Reload.Lapped x }
-    ensures { (Reload.unwound result ≡ Reload.reloaded k (Reload.unwound x)) × Reload.Lapped result }
+    requires { k.smod ≤ 1 }
+    ensures { Reload.unwound result ≡ Reload.reloaded k (Reload.unwound x) }
 {
     let tick = x.half | k.smod;
     let half = x.half ^ (k.smod ^ 1);
-    let counter = std::num::wrapping_add_u8(x.counter, picked(k.sends, tick, 0)) & 15;
+    let counter = x.counter.wrapping_add(picked(k.sends, tick, 0)) & 15;
     let sample = picked(picked(k.receives, tick, 0) == 0, x.sample, k.rxd);
     Lap {
         room: x.full,
         full: x.full,
-        half: half,
-        counter: counter,
-        sample: sample,
+        half,
+        counter,
+        sample,
     }
 }
 
 // The device with another cycle number and with these.
+#[tactic(auto, unfolding(crate::specs::Reload::put_idling))]
 fn put_lap(n: u64, x: Lap, d: Device) -> Device
-    requires { Reload.Lapped x }
     ensures { result ≡ Reload.put_idling n (Reload.unwound x) d }
 {
     let tl1 = (255 - x.room) as u8;
     let th1 = (255 - x.full) as u8;
-    let mut e = d;
-    e.timers.tl1 = tl1;
-    e.timers.th1 = th1;
-    e.serial.half = x.half;
-    e.serial.send.counter = x.counter;
-    e.serial.receive.sample = x.sample;
-    e.cycle = n;
-    e
+    Device {
+        timers: Timers {
+            tl1,
+            th1,
+            ..d.timers
+        },
+        serial: Serial {
+            send: Sender {
+                counter: x.counter,
+                ..d.serial.send
+            },
+            receive: Receiver {
+                sample: x.sample,
+                ..d.serial.receive
+            },
+            half: x.half,
+            ..d.serial
+        },
+        cycle: n,
+        ..d
+    }
 }
 
 // A round passes so many cycles.
@@ -151,8 +161,8 @@ pub struct LapRound {
 
 // One round of the cycles that are left: the reload, or the counts of TL1 before it.
 fn idle_round(k: Clocking, x: Lap, left: u64) -> LapRound
-    requires { (1 ≤ left) × (k.smod ≤ 1) × Reload.Lapped x }
-    ensures { Reload.Rounded k (Reload.unwound x) left result.used (Reload.unwound result.lap) × Reload.Lapped result.lap }
+    requires { (1 ≤ left) × (k.smod ≤ 1) }
+    ensures { Reload.Rounded k (Reload.unwound x) left result.used (Reload.unwound result.lap) }
 {
     let room = x.room;
     if room == 0 {
@@ -161,9 +171,9 @@ fn idle_round(k: Clocking, x: Lap, left: u64) -> LapRound
             lap: reloaded(k, x),
         }
     } else {
-        let used = least(room, left);
+        let used = room.min(left);
         LapRound {
-            used: used,
+            used,
             lap: Lap {
                 room: room - used,
                 full: x.full,
@@ -183,6 +193,7 @@ pub struct Idled {
 }
 
 // n cycles in which Timer 1's reload is all that happens, by rounds, which are counted.
+#[tactic(auto, using(crate::proofs::Laps::smod_bit, crate::proofs::Rounds::going_first))]
 pub fn idle(d: Device, l: u8, n: u64) -> Idled
     requires { d.serial.half ≤ 1 }
     ensures { (result.rounds ≡ Reload.idle_rounds n l d) × (result.device ≡ Reload.idle_at n l d) }
@@ -191,6 +202,7 @@ pub fn idle(d: Device, l: u8, n: u64) -> Idled
     let mut x = lap_of(d);
     let mut left = n;
     let mut rounds = 0;
+    // No index: a round passes as many cycles as it can.
     while 0 < left {
         let r = idle_round(k, x, left);
         x = r.lap;
@@ -198,12 +210,13 @@ pub fn idle(d: Device, l: u8, n: u64) -> Idled
         rounds += 1;
     }
     Idled {
-        rounds: rounds,
-        device: put_lap(std::num::wrapping_add_u64(d.cycle, n), x, d),
+        rounds,
+        device: put_lap(d.cycle.wrapping_add(n), x, d),
     }
 }
 
 // How often the timers overflow in them: Timer 1 as its n counts over the stretch say, and no other.
+#[tactic(auto, unfolding(crate::specs::Reload::idle_totals))]
 pub fn idle_totals(t: Timers, n: u64) -> Totals
     ensures { result ≡ Reload.idle_totals n t }
 {

@@ -96,6 +96,15 @@ module _ (k : Ticks) (rxd : ℕ) (s : Serial) (h : k.half ≤ 1) (o : SerialOk s
       let u = S.send_ticks k.send t in
       simp (ne_eqb m 0 z, ne_eqb (serial_mode u.scon) 0 (λ e. z (sym (ticks_kept m k.send t (half_kept k.half s h o)).mode ∙ e)))
 
+-- sent by ticks, it is ready to receive by them
+pub sent_ok : (n h : ℕ) (s : Serial) → h ≤ 1 → SerialOk s → SerialOk (S.send_ticks n (with_half h s))
+sent_ok n h s l o =
+    let m = serial_mode s.scon in
+    ok m (S.send_ticks n (with_half h s)) (ticks_kept m n (with_half h s) (half_kept h s l o))
+
+pub sent_mode : (n h : ℕ) (s : Serial) → h ≤ 1 → SerialOk s → serial_mode (S.send_ticks n (with_half h s)).scon ≡ serial_mode s.scon
+sent_mode n h s l o = (ticks_kept (serial_mode s.scon) n (with_half h s) (half_kept h s l o)).mode
+
 -- it keeps the ranges, and the mode
 
 step_kept : (k : Ticks) (rxd : ℕ) (s : Serial) → k.half ≤ 1 → rxd ≤ 1 → SerialOk s → Kept (serial_mode s.scon) (S.serial_step k rxd s)

@@ -7,6 +7,7 @@ use Prim.Native.Nat.{ℕ, zero, suc, ◌+◌, ◌-◌, ◌%◌, ◌≤◌, ◌<�
 use native.Mathlib.Nat.{eq-or-lt_of_le}
 use native.Mathlib.Omega.{arith}
 use lib.Dec.{eqb}
+use lib.Bits.{bit_or}
 use borrow.Author.Tests.{eq-eqb, ne_eqb}
 use Rattle.machine.specs.declared.Serial.{Serial}
 use Rattle.machine.specs.Bits.{set_bit}
@@ -14,6 +15,11 @@ use Rattle.machine.specs.Record.{last_position}
 use Rattle.machine.specs.Registers.{TI}
 use Rattle.machine.specs.Serial.{with_send, send_at, send_move, send_tick, send_ticks}
 use Rattle.machine.proofs.Choices.{cond_ap}
+use Rattle.laws.proofs.Bits.{or_bit}
+
+-- TI by a mask
+pub ti_set : (scon : ℕ) → bit_or scon 2 ≡ set_bit TI scon
+ti_set scon = or_bit scon TI
 
 -- the send counter at c
 abbrev pub send_counter : ℕ → Serial → Serial

@@ -1,13 +1,6 @@
 -- Request Ten as it asks for it: the shares are fair, by induction on the wishes, and no others are. For at the first place where two
 -- fair lists differ, one tunnel is not filled to its wish, so that all later ones have their first parts alone, and the sums differ.
-use Prim.Native.Nat.{ℕ, zero, suc, ◌+◌, ◌-◌, ◌*◌, ◌≤◌, ◌<◌, min}
-use mathlib.Core.Path.{◌≡◌, refl, sym, ap, ◌∙◌}
-use mathlib.Core.List.{List, [], ◌∷◌}
-use native.Mathlib.Nat.{div-mul-le_self, mul-suc}
-use native.Mathlib.Omega.{arith}
-use lib.Dec.{ltb}
-use lib.ListN.{length, get_or}
-use borrow.Author.Tests.{ltb-true, ltb-false}
+use Rattle.std.proofs.Common.{ℕ, zero, suc, ◌+◌, ◌-◌, ◌*◌, ◌≤◌, ◌<◌, min, ◌≡◌, refl, sym, ap, ◌∙◌, List, [], ◌∷◌, div-mul-le_self, mul-suc, arith, ltb, length, get_or, ltb-true, ltb-false}
 use Rattle.machine.proofs.Choices.{by_test, clash}
 use Rattle.slices.specs.Shares.{Shared, tunnels_ok, slice_ok, total, equal_part, first_parts, over_of, lack, goes_round, shares_of, shares_answer}
 use Rattle.shares.specs.Fair.{Fair, Says, Shares}

@@ -1,41 +1,23 @@
--- The three loops, a turn each: what is done so far, with what the definition makes of the rest, is what it makes of all.
-use Prim.Native.Nat.{ℕ, suc, ◌+◌, ◌-◌, ◌≤◌, ◌<◌, min}
-use mathlib.Core.Path.{◌≡◌, ◌∙◌}
-use mathlib.Core.Bool.{true, ◌&&◌}
-use mathlib.Core.List.{List, ◌++◌, append_assoc, append-nil}
-use native.Mathlib.Numerals.{add-one}
-use native.Mathlib.Omega.{arith}
-use lib.Dec.{leb}
-use lib.ListN.{length, get_or, take, drop, set, drop_of_length-le}
-use lib.Seq.{drop-cons, take-suc-set, take_all}
-use Rattle.machine.specs.Calls.{longest}
-use Rattle.slices.specs.Shares.{wishes_ok, total, first_parts, lack, goes_round}
+-- What is over, one wish more; and the loop that writes the shares, a turn: what is written so far, with what the definition makes of the
+-- rest, is what it makes of all.
+use Rattle.std.proofs.Common.{ℕ, ◌+◌, ◌-◌, ◌≤◌, ◌<◌, min, ◌≡◌, ◌∙◌, List, [], ◌∷◌, ◌++◌, append_assoc, append-nil, add-one, arith, length, get_or, take, drop, set, drop_of_length-le, drop-cons, take-suc-set, take_all}
+use Rattle.slices.specs.Shares.{total, first_parts, lack, goes_round}
 
--- less a sum, where the first part of it may be more than there is
-pub less_both : (n x t : ℕ) → n - (x + t) ≡ n - min x n - t
-less_both n x t = omega arith
+-- what is over before the first wish, and after one wish more
+parts_more : (part w : ℕ) (ws : List ℕ) → total (first_parts part (ws ++ w ∷ [])) ≡ total (first_parts part ws) + min w part
+unfolding total first_parts
+parts_more part w [] = omega arith
+parts_more part w (x ∷ xs) = omega (arith, parts_more part w xs)
+
+pub over_none : (b part : ℕ) → b ≡ b - total (first_parts part [])
+unfolding total first_parts
+over_none b part = omega arith
+
+pub over_more : (b part w left more : ℕ) (ws : List ℕ) → left ≡ b - total (first_parts part ws) → more ≡ left - min w part
+    → more ≡ b - total (first_parts part (ws ++ w ∷ []))
+over_more b part w left more ws e f = omega (arith, parts_more part w ws)
 
 module _ (ws : List ℕ) (i : ℕ) where
-  pub wishes_on : i < length ws → wishes_ok (drop i ws) ≡ (leb (get_or ws i 0) longest && wishes_ok (drop (i + 1) ws))
-  unfolding wishes_ok
-  wishes_on h = rw (add-one, drop-cons ws i 0)
-
-  pub wishes_out : length ws ≤ i → wishes_ok (drop i ws) ≡ true
-  unfolding wishes_ok
-  wishes_out h = rw (drop_of_length-le ws h)
-
-  pub over_on : (part over : ℕ) → i < length ws
-      → over - total (first_parts part (drop i ws))
-      ≡ over - min (min (get_or ws i 0) part) over - total (first_parts part (drop (i + 1) ws))
-  unfolding first_parts total
-  over_on part over h =
-      rw (add-one, drop-cons ws i 0)
-      (less_both over (min (get_or ws i 0) part) (total (first_parts part (drop (suc i) ws))))
-
-  pub over_out : (part over : ℕ) → length ws ≤ i → over - total (first_parts part (drop i ws)) ≡ over
-  unfolding first_parts total
-  over_out part over h = rw (drop_of_length-le ws h) (omega arith)
-
   -- the share of tunnel i is written, and what is over goes on
   pub round_on : (part left : ℕ) (out : List ℕ) → i < length ws → i < length out
       → take (i + 1) (set out i (min (get_or ws i 0) part + min (lack part (get_or ws i 0)) left))

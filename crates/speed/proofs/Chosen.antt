@@ -1,18 +1,11 @@
 -- Request Four as it asks for it: what the answer says is so, and no other answer says what is so. By the first nearest pair, which there
 -- always is.
-use Prim.Native.Nat.{ℕ, ◌+◌, ◌-◌, ◌*◌, ◌/◌, ◌%◌, ◌≤◌, ◌<◌}
-use mathlib.Core.Path.{◌≡◌, refl, sym, ◌∙◌}
-use mathlib.Core.Bool.{true, false}
-use mathlib.Core.Logic.{inl, inr}
-use native.Mathlib.Nat.{div-mul-le_self, div-lt_iff_lt-mul, div-eq_of_lt-le}
-use native.Mathlib.Omega.{arith}
-use lib.Dec.{ltb}
-use borrow.Author.Tests.{ltb-true, ltb-false}
+use Rattle.std.proofs.Common.{ℕ, ◌+◌, ◌-◌, ◌*◌, ◌/◌, ◌%◌, ◌≤◌, ◌<◌, ◌≡◌, refl, sym, ◌∙◌, true, false, inl, inr, div-mul-le_self, div-lt_iff_lt-mul, arith, ltb, ltb-true, ltb-false}
+use native.Mathlib.Nat.{div-eq_of_lt-le}
 use Rattle.machine.proofs.Choices.{by_test, clash}
 use Rattle.baud.specs.declared.Pair.{Pair}
 use Rattle.baud.specs.declared.Fraction.{Fraction}
-use Rattle.baud.specs.declared.SpeedAnswer.{SpeedAnswer}
-use Rattle.baud.specs.declared.SpeedAnswer.TheVariants.{Refused, Found, Nothing}
+use Rattle.baud.specs.Answers.{SpeedAnswer, Refused, Found, Nothing}
 use Rattle.baud.specs.Speed.{PAIRS, allowed, rate_of, within, as_near, pair_at, cut_down, speed}
 use Rattle.speed.specs.Chosen.{IsPair, Preferred, Chosen, CutDown, Says, Chooses}
 use Rattle.speed.specs.Nearest.{FirstNearest}

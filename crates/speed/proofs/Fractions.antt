@@ -1,11 +1,5 @@
 -- Fractions compared crosswise: they are in order, and their products fit 64 bits.
-use Prim.Native.Nat.{ℕ, ◌+◌, ◌*◌, ◌^◌, ◌≤◌, ◌<◌}
-use mathlib.Core.Path.{◌≡◌}
-use mathlib.Core.Bool.{true, false}
-use mathlib.Core.Logic.{⊎_elim}
-use native.Mathlib.Nat.{le_refl, le_of_lt, mul-le-mul, mul-le-mul_right, mul_right_comm, le_of_mul-le-mul_right, eq-or-lt_of_le}
-use native.Mathlib.Omega.{arith}
-use borrow.Author.Tests.{leb-true, leb-false, le-leb}
+use Rattle.std.proofs.Common.{ℕ, ◌+◌, ◌*◌, ◌^◌, ◌≤◌, ◌<◌, ◌≡◌, true, false, ⊎_elim, le_refl, le_of_lt, mul-le-mul, mul-le-mul_right, mul_right_comm, le_of_mul-le-mul_right, eq-or-lt_of_le, arith, leb-true, leb-false, le-leb}
 use Rattle.baud.specs.declared.Pair.{Pair}
 use Rattle.baud.specs.declared.Fraction.{Fraction}
 use Rattle.baud.specs.Speed.{rate_of, at_most, away}

@@ -1,10 +1,5 @@
 -- The nearest pair, the first of those that are equally near: after one pair, and after one pair more. By the order of fractions.
-use Prim.Native.Nat.{ℕ, zero, suc, ◌≤◌, ◌<◌}
-use mathlib.Core.Path.{◌≡◌}
-use mathlib.Core.Bool.{true, false}
-use mathlib.Core.Logic.{⊎_elim}
-use native.Mathlib.Nat.{le_of_suc-le-suc, eq-or-lt_of_le}
-use native.Mathlib.Omega.{arith}
+use Rattle.std.proofs.Common.{ℕ, zero, suc, ◌≤◌, ◌<◌, ◌≡◌, true, false, ⊎_elim, le_of_suc-le-suc, eq-or-lt_of_le, arith}
 use borrow.Author.Tests.{not-true, not-false}
 use Rattle.machine.proofs.Choices.{by_test, clash}
 use Rattle.baud.specs.declared.Pair.{Pair}

@@ -1,30 +1,18 @@
 -- From the nearest pair to the answer: the first pair that fits is the first nearest, if it is within the tolerance; else none fits.
-use Prim.Native.Nat.{ℕ, zero, suc, ◌+◌, ◌*◌, ◌≤◌, ◌<◌}
-use mathlib.Core.Path.{◌≡◌, refl}
-use mathlib.Core.Bool.{Bool, true, false}
-use mathlib.Core.Logic.{⊎_elim}
-use native.Mathlib.Nat.{eq-or-lt_of_le}
-use native.Mathlib.Omega.{arith}
-use Rattle.machine.proofs.Choices.{by_test, clash, and_left, and_right, and_both}
+use Rattle.std.proofs.Common.{ℕ, zero, suc, ◌+◌, ◌*◌, ◌≤◌, ◌<◌, ◌≡◌, refl, Bool, true, false, ⊎_elim, eq-or-lt_of_le, arith, Decides}
+use Rattle.std.proofs.lemmas.Bool.Decides.{nat_tests, Decides-below_and}
+use Rattle.machine.proofs.Choices.{by_test, clash}
 use Rattle.baud.specs.declared.Pair.{Pair}
-use Rattle.baud.specs.declared.SpeedAnswer.TheVariants.{Refused, Nothing}
+use Rattle.baud.specs.Answers.{Refused, Nothing}
 use Rattle.baud.specs.Speed.{PAIRS, allowed, away, within, as_near, pair_at, every, fits, found, first_from, search, speed}
 use Rattle.speed.specs.Nearest.{FirstNearest}
 use Rattle.speed.proofs.Fractions.{at_most_trans, away_positive}
-use Rattle.speed.proofs.Nearest.{below_suc, th1_most}
+use Rattle.speed.proofs.Nearest.{th1_most}
 
 -- a test at every place below n
-every_true : (test : ℕ → Bool) (n : ℕ) → ((k : ℕ) → k < n → test k ≡ true) → every test n ≡ true
+every_means : (test : ℕ → Bool) (n : ℕ) → Decides (every test n) ((k : ℕ) → k < n → test k ≡ true)
 unfolding every
-every_true test zero h = refl
-every_true test (suc n) h =
-    and_both (test n) (every test n) (h n (omega arith)) (every_true test n (λ k l. h k (omega arith)))
-
-every_at : (test : ℕ → Bool) (n : ℕ) → every test n ≡ true → (k : ℕ) → k < n → test k ≡ true
-unfolding every
-every_at test zero e = λ k l. absurd (omega arith)
-every_at test (suc n) e =
-    below_suc (λ (k : ℕ). test k ≡ true) n (every_at test n (and_right (test n) (every test n) e)) (and_left (test n) (every test n) e)
+every_means test n = Decides-below_and test (λ k. test k ≡ true) (every test) (λ k. (λ e. e, λ e. e)) refl (λ _. refl) n
 
 module _ (crystal rate tolerance : ℕ) where
   -- what is at least as near as a pair within the tolerance is within it
@@ -41,11 +29,11 @@ module _ (crystal rate tolerance : ℕ) where
 
   fits_within : (p : Pair) → fits crystal rate tolerance p ≡ true → within crystal rate tolerance p ≡ true
   unfolding fits
-  fits_within p e = and_left (within crystal rate tolerance p) (every (as_near_as p) PAIRS) e
+  fits_within p e = grind (arith, nat_tests)
 
   fits_near : (p : Pair) → fits crystal rate tolerance p ≡ true → (k : ℕ) → k < PAIRS → as_near crystal rate p (pair_at k) ≡ true
   unfolding fits
-  fits_near p e = every_at (as_near_as p) PAIRS (and_right (within crystal rate tolerance p) (every (as_near_as p) PAIRS) e)
+  fits_near p e = (every_means (as_near_as p) PAIRS).0 (grind (arith, nat_tests))
 
   -- the first that fits
   first_at : (n k b : ℕ) → ((j : ℕ) → j < b → fits crystal rate tolerance (pair_at j) ≡ false)
@@ -70,9 +58,7 @@ module _ (crystal rate tolerance : ℕ) where
 
     here : within crystal rate tolerance (pair_at b) ≡ true → fits crystal rate tolerance (pair_at b) ≡ true
     unfolding fits
-    here e =
-        and_both (within crystal rate tolerance (pair_at b)) (every (as_near_as (pair_at b)) PAIRS) e
-        (every_true (as_near_as (pair_at b)) PAIRS h.nearest)
+    here e = simp (e, (every_means (as_near_as (pair_at b)) PAIRS).1 h.nearest)
 
     nowhere : within crystal rate tolerance (pair_at b) ≡ false → (k : ℕ) → k < PAIRS → fits crystal rate tolerance (pair_at k) ≡ false
     nowhere e k l =

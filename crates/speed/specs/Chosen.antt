@@ -2,8 +2,7 @@
 use Rattle.std.specs.Prelude.{ℕ, ◌+◌, ◌*◌, ◌≤◌, ◌<◌, ◌≡◌, true, ◌⊎◌}
 use Rattle.baud.specs.declared.Pair.{Pair}
 use Rattle.baud.specs.declared.Fraction.{Fraction}
-use Rattle.baud.specs.declared.SpeedAnswer.{SpeedAnswer}
-use Rattle.baud.specs.declared.SpeedAnswer.TheVariants.{Refused, Found, Nothing}
+use Rattle.baud.specs.Answers.{SpeedAnswer, Refused, Found, Nothing}
 use Rattle.baud.specs.Speed.{rate_of, within, as_near, speed}
 
 -- the limits of the three numbers

@@ -12,4 +12,3 @@ pub mod Overflows
 pub mod Exact
 pub mod Totals
 pub mod Silent
-pub mod Coded

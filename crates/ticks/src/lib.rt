@@ -42,11 +42,7 @@ pub fn ticks1(smod: u8, half: u8, overflow1: u8) -> u8
 pub fn half_after(smod: u8, half: u8, overflow1: u8) -> u8
     ensures { result ≡ S.half_after smod half overflow1 }
 {
-    picked(
-        smod == 1,
-        half,
-        std::num::wrapping_add_u8(half, overflow1) & 1,
-    )
+    picked(smod == 1, half, half.wrapping_add(overflow1) & 1)
 }
 
 pub fn serial_ticks(pcon: u8, t2con: u8, s: Serial, overflow1: u8, overflows2: u8) -> Ticks

@@ -4,11 +4,12 @@
 ghost use Rattle.std.specs.Prelude.{◌≡◌};
 ghost use Rattle.machine.specs.Timers as Step;
 
-use laws::{flagged, picked};
+use laws::{Pair, flagged, picked};
 use machine::places::{CT0, CT1, GATE0, GATE1, INT0, INT1, MODE0, MODE1, TF0, TF1, TR0, TR1};
 use machine::{Count, Timers, TimersCounted};
 
 // TRi = 1 and (GATE = 0 or the level of INTi = 1).
+#[tactic(auto, unfolding(machine::specs::Timers::enabled))]
 pub fn enabled(run: u8, gate: u8, level: u8) -> bool
     ensures { result ≡ Step.enabled run gate level }
 {
@@ -16,6 +17,7 @@ pub fn enabled(run: u8, gate: u8, level: u8) -> bool
 }
 
 // As a timer in every cycle, as a counter on its due mark.
+#[tactic(auto, unfolding(machine::specs::Timers::clocked))]
 pub fn clocked(counter: u8, due: u8) -> bool
     ensures { result ≡ Step.clocked counter due }
 {
@@ -23,6 +25,7 @@ pub fn clocked(counter: u8, due: u8) -> bool
 }
 
 // Timer 0's mode.
+#[tactic(auto, using(laws::proofs::Bits::bits))]
 pub fn timer0_mode(t: Timers) -> u8
     ensures { result ≡ Step.timer0_mode t }
 {
@@ -30,6 +33,7 @@ pub fn timer0_mode(t: Timers) -> u8
 }
 
 // Timer 1's mode.
+#[tactic(auto, using(laws::proofs::Bits::bits))]
 pub fn timer1_mode(t: Timers) -> u8
     ensures { result ≡ Step.timer1_mode t }
 {
@@ -37,6 +41,7 @@ pub fn timer1_mode(t: Timers) -> u8
 }
 
 // Timer 0 counts in this cycle.
+#[tactic(auto, using(laws::proofs::Bits::bits), unfolding(machine::specs::Timers::counts0))]
 pub fn counts0(t: Timers, pins: u8) -> bool
     ensures { result ≡ Step.counts0 t pins }
 {
@@ -48,6 +53,7 @@ pub fn counts0(t: Timers, pins: u8) -> bool
 }
 
 // Timer 1 counts in this cycle: with Timer 0 in mode 3 it is always enabled.
+#[tactic(auto, using(laws::proofs::Bits::bits), unfolding(machine::specs::Timers::counts1))]
 pub fn counts1(t: Timers, pins: u8) -> bool
     ensures { result ≡ Step.counts1 t pins }
 {
@@ -61,6 +67,7 @@ pub fn counts1(t: Timers, pins: u8) -> bool
 }
 
 // TH0 in mode 3 counts cycles while TR1 = 1.
+#[tactic(auto, using(laws::proofs::Bits::bits), unfolding(machine::specs::Timers::counts_high0))]
 pub fn counts_high0(t: Timers) -> bool
     ensures { result ≡ Step.counts_high0 t }
 {
@@ -68,46 +75,47 @@ pub fn counts_high0(t: Timers) -> bool
 }
 
 // Timer 0's pair after this cycle's count; in mode 3 TL0 is 8 bits.
+#[tactic(auto, unfolding(machine::specs::Timers::pair0))]
 fn pair0(t: Timers, pins: u8) -> Count
     ensures { result ≡ Step.pair0 t pins }
 {
-    counting::pair_after(
-        counts0(t, pins),
-        timer0_mode(t),
-        counting::count8(t.tl0, t.th0),
-        t.tl0,
-        t.th0,
-    )
+    let p = Pair {
+        tl: t.tl0,
+        th: t.th0,
+    };
+    counting::pair_after(counts0(t, pins), timer0_mode(t), counting::count8(p), p)
 }
 
 // TH0 after its own count in mode 3.
+#[tactic(auto, unfolding(machine::specs::Timers::high0))]
 fn high0(t: Timers, th: u8) -> u8
     ensures { result ≡ Step.high0 t th }
 {
-    picked(counts_high0(t), std::num::wrapping_add_u8(th, 1), th)
+    picked(counts_high0(t), th.wrapping_add(1), th)
 }
 
 // 1 where that count overflows.
+#[tactic(auto, unfolding(machine::specs::Timers::high_overflow0))]
 fn high_overflow0(t: Timers, th: u8) -> u8
     ensures { result ≡ Step.high_overflow0 t th }
 {
     picked(counts_high0(t), counting::overflow8(th), 0)
 }
 
-// Timer 1's pair after this cycle's count; in mode 3 it holds.
+// Timer 1's pair after this cycle's count; in mode 3 it holds. The machine has a definition for each of the two.
+#[tactic(auto, unfolding(machine::specs::Timers::pair1))]
 fn pair1(t: Timers, pins: u8) -> Count
     ensures { result ≡ Step.pair1 t pins }
 {
-    counting::pair_after(
-        counts1(t, pins),
-        timer1_mode(t),
-        counting::hold(t.tl1, t.th1),
-        t.tl1,
-        t.th1,
-    )
+    let p = Pair {
+        tl: t.tl1,
+        th: t.th1,
+    };
+    counting::pair_after(counts1(t, pins), timer1_mode(t), counting::hold(p), p)
 }
 
 // TCON after the overflows of Timer 0, of TH0 in mode 3 and of Timer 1; with Timer 0 in mode 3 Timer 1 sets no flag.
+#[tactic(auto, unfolding(machine::specs::Timers::timer_flags))]
 fn timer_flags(t: Timers, low: u8, high: u8, one: u8) -> u8
     ensures { result ≡ Step.timer_flags t low high one }
 {
@@ -116,20 +124,22 @@ fn timer_flags(t: Timers, low: u8, high: u8, one: u8) -> u8
 }
 
 // Step 2, with the three overflows; Timer 1's clocks the serial port.
+#[tactic(auto, unfolding(machine::specs::Timers::timers_step))]
 pub fn timers_step(t: Timers, pins: u8) -> TimersCounted
     ensures { result ≡ Step.timers_step t pins }
 {
     let low = pair0(t, pins);
     let high = high_overflow0(t, low.th);
     let one = pair1(t, pins);
-    let mut u = t;
-    u.tcon = timer_flags(t, low.overflow, high, one.overflow);
-    u.tl0 = low.tl;
-    u.tl1 = one.tl;
-    u.th0 = high0(t, low.th);
-    u.th1 = one.th;
     TimersCounted {
-        timers: u,
+        timers: Timers {
+            tcon: timer_flags(t, low.overflow, high, one.overflow),
+            tl0: low.tl,
+            tl1: one.tl,
+            th0: high0(t, low.th),
+            th1: one.th,
+            ..t
+        },
         overflow0: low.overflow,
         overflow_th0: high,
         overflow1: one.overflow,

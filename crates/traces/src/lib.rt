@@ -4,9 +4,10 @@
 ghost use Rattle.std.specs.Prelude.{◌≡◌, true, ◌≤◌, length};
 ghost use Rattle.machine.specs.Record.{accepted};
 ghost use Rattle.machine.specs.Calls.{most_entries, entry_pins, entry_cycles, entry_fault, trace_fault, trace_cycles, trace_totals};
+ghost use Rattle.machine.specs.Outcomes.{code_of};
 
 use cycle::Run;
-use machine::refusals::{BAD_PINS, EMPTY_ENTRY, PASSED, TOO_LONG};
+use machine::refusals::Refusal;
 use machine::{Device, MOST_ENTRIES};
 
 // A trace entry's pin byte, its top 8 bits.
@@ -23,32 +24,32 @@ fn entry_cycles(e: u32) -> u64
     (e & 0xffffff) as u64
 }
 
-// The number by which an entry is refused, or 0: 4 for its pin byte before 8 for its cycles.
-fn entry_fault(e: u32) -> u8
-    ensures { result ≡ entry_fault e }
+// Whether an entry is good: its pin byte is judged before its cycles.
+#[tactic(auto, unfolding(machine::specs::Calls::entry_fault))]
+fn entry_fault(e: u32) -> Result<(), Refusal>
+    ensures { code_of result ≡ entry_fault e }
 {
-    let pins = entry_pins(e);
-    let cycles = entry_cycles(e);
-    let of_cycles = laws::picked(cycles == 0, EMPTY_ENTRY, PASSED);
-    laws::picked(pins < 128, of_cycles, BAD_PINS)
+    if entry_pins(e) >= 128 {
+        return Err(Refusal::BadPins);
+    }
+    if entry_cycles(e) == 0 {
+        return Err(Refusal::EmptyEntry);
+    }
+    Ok(())
 }
 
-// The number by which a trace is refused, or 0: 5 goes first, then its first bad entry.
-pub fn trace_fault(entries: &[u32]) -> u8
-    ensures { result ≡ trace_fault entries.now }
+// Whether a trace may run: its length goes first, then its first bad entry.
+#[tactic(auto, unfolding(machine::specs::Calls::trace_fault))]
+pub fn trace_fault(entries: &[u32]) -> Result<(), Refusal>
+    ensures { code_of result ≡ trace_fault entries.now }
 {
-    if MOST_ENTRIES < entries.len() {
-        return TOO_LONG;
+    if entries.len() > MOST_ENTRIES {
+        return Err(Refusal::TooLong);
     }
-    let mut i = 0;
-    while i < entries.len() {
-        let bad = entry_fault(entries[i]);
-        if bad != PASSED {
-            return bad;
-        }
-        i += 1;
+    for e in entries {
+        entry_fault(*e)?;
     }
-    PASSED
+    Ok(())
 }
 
 // The cycles of each entry in turn, with its pin byte as it is given, and the overflows in them.
@@ -60,13 +61,10 @@ pub fn run_entries(d: Device, entries: &[u32]) -> Run
         totals: totals::none(),
         device: d,
     };
-    let mut i = 0;
-    while i < entries.len() {
-        let e = entries[i];
-        let pins = cycle::pins_of(run.device.kind, entry_pins(e));
-        let a = jump::advance(run, pins, entry_cycles(e));
+    for e in entries {
+        let pins = cycle::pins_of(run.device.kind, entry_pins(*e));
+        let a = jump::advance(run, pins, entry_cycles(*e));
         run = a.run;
-        i += 1;
     }
     run
 }

@@ -7,8 +7,11 @@ use native.Mathlib.Omega.{arith}
 use lib.ListN.{length, get_or}
 use borrow.Author.Tests.{le-leb}
 use Rattle.machine.specs.declared.Device.{Device}
-use Rattle.machine.specs.declared.JumpAnswer.{JumpAnswer}
-use Rattle.machine.specs.declared.CycleAnswer.{CycleAnswer}
+use Rattle.std.specs.Prelude.{Result, Ok, Err}
+use Rattle.machine.specs.declared.Jumped.{Jumped}
+use Rattle.machine.specs.declared.refusals.Refusal.{Refusal}
+use Rattle.machine.specs.Answers.{JumpAnswer, CycleAnswer}
+use Rattle.machine.specs.Outcomes.{code_of, jump_answered}
 use Rattle.machine.specs.Cycle.{cycle_of, cycles}
 use Rattle.machine.specs.Totals.{totals}
 use Rattle.machine.specs.Rounds.{rounds}
@@ -36,8 +39,8 @@ said_most b ws before a (bad_tunnels n) z i h = absurd (omega arith)
 said_most b ws before a (bad_wish s n) z i h = absurd (omega arith)
 
 share_most : {n : ℕ} → Share n → n ≤ longest
-share_most (share κ ι b wishes before shares i e h) =
-    said_most b wishes.now before.now (answers 0 shares.now) (shares_promises κ ι b wishes before shares 0 e).1 refl i h
+share_most (share κ ι b wishes before shares r i e z h) =
+    said_most b wishes.now before.now (answers (code_of r) shares.now) (shares_promises κ ι b wishes before shares r e).1 z i h
 
 -- calls on a device that is ready pass
 module _ (pins : ℕ) (d : Device) (ready : Ready pins d) where
@@ -106,12 +109,18 @@ jumps_end (n ∷ ns) pins {d} (s, ss) ready (then k r) =
     let c = jump_makes n pins d (share_most s) ready k in
     and_then n (total ns) pins c (jumps_end ns pins ss (still_ready n pins c ready) r)
 
+-- what a jump gives, written down, has its code and the device that it leaves
+jump_told : (r : Result Jumped Refusal) (e : Device) → ((jump_answered r e).code ≡ code_of r) × ((jump_answered r e).device ≡ e)
+jump_told (Ok j) e = (refl, refl)
+jump_told (Err f) e = (refl, refl)
+
 pub advances : Advances
 advances =
     record {
-      by_share = λ n pins d r s ready e.
-          let a = e ∙ jump_passes pins d ready n (share_most s) in
-          (ap (λ (r : JumpAnswer). r.code) a, ap (λ (r : JumpAnswer). r.device) a);
+      by_share = λ κ n pins d e r s ready k.
+          let a = k ∙ jump_passes pins d.now ready n (share_most s) in
+          let j = jump_told r e.now in
+          (sym j.0 ∙ ap (λ (r : JumpAnswer). r.code) a, sym j.1 ∙ ap (λ (r : JumpAnswer). r.device) a);
       by_cycles = cycles_end;
       by_slices = jumps_end;
     }

@@ -1,49 +1,28 @@
--- Values that have room in their fields: what the code's loop over them finds, and that cutting them then changes nothing.
+-- Values that have room in their fields: what the code finds of each, and that cutting them then changes nothing.
 use Prim.Native.Nat.{ℕ, zero, suc, ◌+◌, ◌-◌, ◌%◌, ◌^◌, ◌<◌, ◌≤◌}
 use mathlib.Core.Path.{◌≡◌, refl, sym, ap, subst, ◌∙◌}
-use mathlib.Core.Bool.{true, false, ◌&&◌, true≢false}
+use mathlib.Core.Bool.{Bool, true, false, ◌&&◌, true≢false}
 use mathlib.Core.List.{List, [], ◌∷◌}
 use native.Mathlib.Nat.{mod-eq_of_lt, zero-add}
 use native.Mathlib.Omega.{arith}
 use lib.Dec.{leb, ltb}
-use lib.ListN.{length, get_or, drop, get_or-eq_default, drop_of_length-le}
-use lib.Seq.{drop-cons}
-use borrow.Author.Tests.{leb-true, le-leb, lt-leb}
+use lib.ListN.{length, get_or, get_or-eq_default}
+use borrow.Author.Tests.{leb-true, le-leb}
+use Rattle.std.specs.List.{list_all, enumerate_from}
 use Rattle.machine.specs.Record.{accepted}
 use Rattle.machine.specs.Checkpoint.{device_with, device_of, places, place_of_received}
 use Rattle.machine.proofs.Choices.{cond_has, by_test, and_two}
 use Rattle.values.specs.Values.{most_at, narrow_from, narrow, cut}
 use Rattle.values.proofs.Fields.{fits}
 
--- the loop: the value at a place, and those past it
-pub record Looking (values : List ℕ) (place : ℕ) : Type 0 where
-  pub within : place ≤ places
-  pub rest : narrow_from place (drop place values) ≡ narrow values
+-- the code's test of each value with its place
+abbrev pub has_room : ℕ × ℕ → Bool
+has_room (place, x) = leb x (most_at place)
 
-pub look_first : (values : List ℕ) → Looking values 0
-look_first values = record { within = omega arith; rest = refl }
-
-module _ (values : List ℕ) (long : length values ≡ places) (place : ℕ) (l : Looking values place) where
-  cut_here : place < places → (leb (get_or values place 0) (most_at place) && narrow_from (place + 1) (drop (place + 1) values)) ≡ narrow values
-  unfolding narrow_from
-  cut_here h =
-      let e : suc place ≡ place + 1 = omega arith in
-      ap (λ (k : ℕ). leb (get_or values place 0) (most_at place) && narrow_from (place + 1) (drop k values)) (sym e)
-      ∙ (ap (narrow_from place) (sym (drop-cons values place 0 (omega (arith, long)))) ∙ l.rest)
-
-  pub look_on : place < places → get_or values place 0 ≤ most_at place → Looking values (place + 1)
-  look_on h n =
-      record {
-        within = omega arith;
-        rest = rw (le-leb _ _ n) at (cut_here h);
-      }
-
-  pub look_found : place < places → most_at place < get_or values place 0 → false ≡ narrow values
-  look_found h n = rw (lt-leb _ _ n) at (cut_here h)
-
-  pub look_out : places ≤ place → true ≡ narrow values
-  unfolding narrow_from
-  look_out h = ap (narrow_from place) (sym (drop_of_length-le values {i = place} (omega (arith, long)))) ∙ l.rest
+pub narrow_listed : (place : ℕ) (values : List ℕ) → list_all has_room (enumerate_from place values) ≡ narrow_from place values
+unfolding narrow_from
+narrow_listed place [] = refl
+narrow_listed place (x ∷ values) = ap (λ (b : Bool). leb x (most_at place) && b) (narrow_listed (place + 1) values)
 
 -- each of them
 narrow_at : (values : List ℕ) (from : ℕ) → narrow_from from values ≡ true → (p : ℕ) → p < length values → get_or values p 0 ≤ most_at (from + p)

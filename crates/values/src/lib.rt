@@ -7,6 +7,7 @@ ghost use Rattle.machine.specs.Checkpoint.{times_listed, values_of, device_with}
 ghost use Rattle.values.specs.Values.{timer_values, timer2_values, send_values, receive_values, serial_values, interrupt_values, most_at, cut, narrow};
 
 use machine::{Device, FlagTimes, Interrupts, Receiver, Sender, Serial, Timer2, Timers};
+use std::array;
 
 // How many values there are, and the places of the SBUF entry and of the received byte among the hidden fields.
 pub const PLACES: usize = 57;
@@ -19,102 +20,62 @@ pub const RECEIVED: usize = 25;
 fn timer_values(t: Timers) -> [u64; 8]
     ensures { result ≡ timer_values t }
 {
-    [
-        t.tcon as u64,
-        t.tmod as u64,
-        t.tl0 as u64,
-        t.tl1 as u64,
-        t.th0 as u64,
-        t.th1 as u64,
-        t.due0 as u64,
-        t.due1 as u64,
-    ]
+    [t.tcon, t.tmod, t.tl0, t.tl1, t.th0, t.th1, t.due0, t.due1].map(u64::from)
 }
 
 fn timer2_values(t: Timer2) -> [u64; 6]
     ensures { result ≡ timer2_values t }
 {
-    [
-        t.t2con as u64,
-        t.rcap2l as u64,
-        t.rcap2h as u64,
-        t.tl2 as u64,
-        t.th2 as u64,
-        t.due2 as u64,
-    ]
+    [t.t2con, t.rcap2l, t.rcap2h, t.tl2, t.th2, t.due2].map(u64::from)
 }
 
 fn send_values(u: Sender) -> [u64; 3]
     ensures { result ≡ send_values u }
 {
-    [u.position as u64, u.value as u64, u.counter as u64]
+    [
+        u64::from(u.position),
+        u64::from(u.value),
+        u64::from(u.counter),
+    ]
 }
 
 fn receive_values(x: Receiver) -> [u64; 5]
     ensures { result ≡ receive_values x }
 {
     [
-        x.position as u64,
-        x.value as u64,
-        x.counter as u64,
-        x.votes as u64,
-        x.sample as u64,
+        u64::from(x.position),
+        u64::from(x.value),
+        u64::from(x.counter),
+        u64::from(x.votes),
+        u64::from(x.sample),
     ]
 }
 
 fn serial_values(s: Serial) -> [u64; 3]
     ensures { result ≡ serial_values s }
 {
-    [s.scon as u64, s.half as u64, s.received as u64]
+    [s.scon, s.half, s.received].map(u64::from)
 }
 
 fn interrupt_values(i: Interrupts) -> [u64; 6]
     ensures { result ≡ interrupt_values i }
 {
-    [
-        i.ie as u64,
-        i.ip as u64,
-        i.seen as u64,
-        i.polled as u64,
-        i.low as u64,
-        i.high as u64,
-    ]
+    [i.ie, i.ip, i.seen, i.polled, i.low, i.high].map(u64::from)
 }
 
 fn level_values(l: [u8; 7]) -> [u64; 7]
     ensures { (result ≡ l) × (length result ≡ 7) }
 {
-    [
-        l[0] as u64,
-        l[1] as u64,
-        l[2] as u64,
-        l[3] as u64,
-        l[4] as u64,
-        l[5] as u64,
-        l[6] as u64,
-    ]
+    l.map(u64::from)
 }
 
 // Of each flag ever, and the number.
 fn time_values(e: [u8; 8], n: [u64; 8]) -> [u64; 16]
     ensures { (result ≡ times_listed e n) × (length result ≡ 16) }
 {
+    let e = e.map(u64::from);
     [
-        e[0] as u64,
-        n[0],
-        e[1] as u64,
-        n[1],
-        e[2] as u64,
-        n[2],
-        e[3] as u64,
-        n[3],
-        e[4] as u64,
-        n[4],
-        e[5] as u64,
-        n[5],
-        e[6] as u64,
-        n[6],
-        e[7] as u64,
+        e[0], n[0], e[1], n[1], e[2], n[2], e[3], n[3], e[4], n[4], e[5], n[5], e[6], n[6], e[7],
         n[7],
     ]
 }
@@ -136,7 +97,7 @@ pub fn values_of(d: Device) -> [u64; PLACES]
     let l = level_values(levels);
     let f = time_values(ever, number);
     [
-        d.pcon as u64,
+        u64::from(d.pcon),
         t[0],
         t[1],
         t[2],
@@ -197,14 +158,15 @@ pub fn values_of(d: Device) -> [u64; PLACES]
 }
 
 // The most that the field at a place has room for.
+#[tactic(auto, unfolding(crate::specs::Values::most_at))]
 fn most_at(place: usize) -> u64
     ensures { result ≡ most_at place }
 {
     let wide = (place == RECEIVED) | (place == 33) | ((41 <= place) & (place % 2 == 0));
-    laws::picked64(
+    laws::picked(
         (place == 17) | (place == 20),
         0xffff,
-        laws::picked64(wide, 0xffff_ffff_ffff_ffff, 0xff),
+        laws::picked(wide, 0xffff_ffff_ffff_ffff, 0xff),
     )
 }
 
@@ -212,17 +174,11 @@ fn most_at(place: usize) -> u64
 pub fn narrow(v: [u64; PLACES]) -> bool
     ensures { result ≡ narrow v }
 {
-    let mut place = 0;
-    while place < PLACES {
-        if most_at(place) < v[place] {
-            return false;
-        }
-        place += 1;
-    }
-    true
+    v.iter().enumerate().all(|(place, x)| *x <= most_at(place))
 }
 
 // The parts of the device that has these values, each cut to its field.
+#[tactic(auto, unfolding(machine::specs::Checkpoint::device_with, crate::specs::Values::most_at, crate::specs::Values::cut))]
 fn timers_of(v: [u64; PLACES]) -> Timers
     ensures { result ≡ (device_with 0 (cut v)).timers }
 {
@@ -238,6 +194,7 @@ fn timers_of(v: [u64; PLACES]) -> Timers
     }
 }
 
+#[tactic(auto, unfolding(machine::specs::Checkpoint::device_with, crate::specs::Values::most_at, crate::specs::Values::cut))]
 fn timer2_of(v: [u64; PLACES]) -> Timer2
     ensures { result ≡ (device_with 0 (cut v)).timer2 }
 {
@@ -251,6 +208,7 @@ fn timer2_of(v: [u64; PLACES]) -> Timer2
     }
 }
 
+#[tactic(auto, unfolding(machine::specs::Checkpoint::device_with, crate::specs::Values::most_at, crate::specs::Values::cut))]
 fn serial_of(v: [u64; PLACES]) -> Serial
     ensures { result ≡ (device_with 0 (cut v)).serial }
 {
@@ -273,6 +231,7 @@ fn serial_of(v: [u64; PLACES]) -> Serial
     }
 }
 
+#[tactic(auto, unfolding(machine::specs::Checkpoint::device_with, crate::specs::Values::most_at, crate::specs::Values::cut))]
 fn interrupts_of(v: [u64; PLACES]) -> Interrupts
     ensures { result ≡ (device_with 0 (cut v)).interrupts }
 {
@@ -286,35 +245,20 @@ fn interrupts_of(v: [u64; PLACES]) -> Interrupts
     }
 }
 
+#[tactic(auto, unfolding(machine::specs::Checkpoint::device_with, crate::specs::Values::most_at, crate::specs::Values::cut))]
 fn levels_of(v: [u64; PLACES]) -> [u8; 7]
     ensures { result ≡ (device_with 0 (cut v)).levels }
 {
-    [
-        (v[34] % 256) as u8,
-        (v[35] % 256) as u8,
-        (v[36] % 256) as u8,
-        (v[37] % 256) as u8,
-        (v[38] % 256) as u8,
-        (v[39] % 256) as u8,
-        (v[40] % 256) as u8,
-    ]
+    array::from_fn(|i| (v[34 + i] % 256) as u8)
 }
 
+#[tactic(auto, unfolding(machine::specs::Checkpoint::device_with, crate::specs::Values::most_at, crate::specs::Values::cut))]
 fn times_of(v: [u64; PLACES]) -> FlagTimes
     ensures { result ≡ (device_with 0 (cut v)).times }
 {
     FlagTimes {
-        ever: [
-            (v[41] % 256) as u8,
-            (v[43] % 256) as u8,
-            (v[45] % 256) as u8,
-            (v[47] % 256) as u8,
-            (v[49] % 256) as u8,
-            (v[51] % 256) as u8,
-            (v[53] % 256) as u8,
-            (v[55] % 256) as u8,
-        ],
-        number: [v[42], v[44], v[46], v[48], v[50], v[52], v[54], v[56]],
+        ever: array::from_fn(|i| (v[41 + 2 * i] % 256) as u8),
+        number: array::from_fn(|i| v[42 + 2 * i]),
     }
 }
 
@@ -323,7 +267,7 @@ pub fn device_of(kind: u8, v: [u64; PLACES]) -> Device
     ensures { result ≡ device_with kind (cut v) }
 {
     Device {
-        kind: kind,
+        kind,
         pcon: (v[0] % 256) as u8,
         timers: timers_of(v),
         timer2: timer2_of(v),

@@ -1,18 +1,21 @@
--- `jump` is the answer of its definition, from the answers of both chips.
-use mathlib.Core.Path.{sym}
-use borrow.Author.Tests.{eq-eqb, ne_eqb}
-use Rattle.board.proofs.Joined.{jump_joined}
+-- `jump` is the answer of its definition, from the outcomes of both chips.
+use Rattle.std.proofs.lemmas.Result.{err_from_is_err_and}
+use Rattle.board.proofs.Joined.{jump_passes, jump_refuses, timer_refuses_jump, both_refuse_jump}
 use Rattle.board.proofs.jump.Goals as goal
 
-pub returns-then-pulsed-ne-PASSED : goal.returns-then-pulsed-ne-PASSED
-returns-then-pulsed-ne-PASSED c = simp (jump_joined c.args.b c.args.pins c.args.gates c.args.n, sym c.jump-pulsed.ensures, ne_eqb _ _ c.if-pulsed-ne-PASSED.true, sym c.jump-judged.ensures, sym c.lower.ensures, c.refuse_jump.ensures)
+pub returns-in_err-jumped-in-Ok : goal.returns-in_err-jumped-in-Ok
+returns-in_err-jumped-in-Ok c =
+    let r = err_from_is_err_and c.from_residual.result c.from_residual.ensures.1 in
+    rw (r.1, r.2) (jump_refuses c.args.b.now c.args.pins c.args.gates _ _ c.args.n _ _ c.in-Ok.ensures c.in_err-jumped-in-Ok.ensures)
 
-pub returns-then-jumped-ne-PASSED : goal.returns-then-jumped-ne-PASSED
-returns-then-jumped-ne-PASSED c = simp (jump_joined c.args.b c.args.pins c.args.gates c.args.n, sym c.jump-pulsed.ensures, eq-eqb _ _ c.if-pulsed-ne-PASSED.false, sym c.jump-jumped.ensures, ne_eqb _ _ c.if-jumped-ne-PASSED.true, c.refuse_jump-then-jumped-ne-PASSED.ensures)
+pub returns-in_ok-jumped-in-Ok : goal.returns-in_ok-jumped-in-Ok
+returns-in_ok-jumped-in-Ok c =
+    jump_passes c.args.b.now c.args.pins c.args.gates _ _ c.args.n _ _ c.in-Ok.ensures c.in_ok-jumped-in-Ok.ensures
 
-pub returns : goal.returns
-returns c =
-    let r = c in
-    let j = r in
-    let a = j in
-    simp (jump_joined a.args.b a.args.pins a.args.gates a.args.n, sym j.jump-pulsed.ensures, eq-eqb _ _ j.if-pulsed-ne-PASSED.false, sym j.jump-jumped.ensures, eq-eqb _ _ r.if-jumped-ne-PASSED.false)
+pub returns-in-Ok-jump : goal.returns-in-Ok-jump
+returns-in-Ok-jump c =
+    timer_refuses_jump c.args.b.now c.args.pins c.args.gates _ _ c.args.n _ _ c.in-Err.ensures c.in-Ok-jump.ensures
+
+pub returns-in-Err-jump : goal.returns-in-Err-jump
+returns-in-Err-jump c =
+    both_refuse_jump c.args.b.now c.args.pins c.args.gates _ _ c.args.n _ _ _ c.lower.ensures c.in-Err.ensures c.in-Err-jump.ensures

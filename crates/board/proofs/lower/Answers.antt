@@ -1,16 +1,20 @@
--- `lower` is its definition, by cases of its tests.
-use borrow.Author.Tests.{eq-eqb, ne_eqb}
+-- `lower` is its definition: no refusal's number is 0.
+use Prim.Native.Nat.{◌≤◌, ◌<◌}
+use native.Mathlib.Omega.{arith}
+use borrow.Author.Tests.{lt-ltb, le-ltb}
+use Rattle.machine.specs.Outcomes.{number}
+use Rattle.machine.proofs.Outcomes.{number_not_0}
 use Rattle.board.specs.Joined.{lower}
 use Rattle.board.proofs.lower.Goals as goal
 
-pub returns-then-x-eq-PASSED : goal.returns-then-x-eq-PASSED
+pub returns-then-number : goal.returns-then-number
 unfolding lower
-returns-then-x-eq-PASSED c = simp (eq-eqb _ _ c.if-x-eq-PASSED.true)
+returns-then-number c =
+    let h : number c.args.x < number c.args.y = omega arith in
+    simp (number_not_0 c.args.x, number_not_0 c.args.y, lt-ltb _ _ h)
 
-pub returns-then-y-eq-PASSED : goal.returns-then-y-eq-PASSED
+pub returns-else-number : goal.returns-else-number
 unfolding lower
-returns-then-y-eq-PASSED c = simp (ne_eqb _ _ c.if-x-eq-PASSED.false, eq-eqb _ _ c.if-y-eq-PASSED.true)
-
-pub returns : goal.returns
-unfolding lower
-returns c = simp (ne_eqb _ _ c.if-x-eq-PASSED.false, ne_eqb _ _ c.if-y-eq-PASSED.false, c.picked.ensures)
+returns-else-number c =
+    let h : number c.args.y ≤ number c.args.x = omega arith in
+    simp (number_not_0 c.args.x, number_not_0 c.args.y, le-ltb _ _ h)

@@ -1,24 +1,16 @@
 -- `count13` is its definition: the sum over the pair, which has room for the carry, is parted at TL's 5 bits as one
 -- count of 13 is.
 use Rattle.std.proofs.Common.{ℕ, ◌+◌, ◌*◌, ◌/◌, sym, refl, ap, ◌∙◌, arith}
-use Rattle.laws.proofs.Bits.{bits, low8, put_below}
+use Rattle.laws.proofs.Bits.{low8, put_below}
 use Rattle.laws.proofs.Counting.{count_eq, next_low, next_high}
 use Rattle.machine.specs.Counting.{pair13, count13}
 use Rattle.counting.proofs.count13.Goals as goal
 
-pub overflow_cast-result : goal.overflow_cast-result
-overflow_cast-result c = simp bits (omega arith)
-
-pub overflow_cast-result-2 : goal.overflow_cast-result-2
-overflow_cast-result-2 c = simp bits (omega arith)
-
 pub returns : goal.returns
 unfolding count13
 returns c =
-    let a = c.args in
-    let n = pair13 a.tl a.th in
-    simp c.pair13-n.ensures
-    (count_eq
-    (put_below 3 5 a.tl (n + 1) (omega arith) ∙ ap (λ (m : ℕ). a.tl / 32 * 32 + m) (sym (next_low 8 5 n)))
-    (low8 ((n + 1) / 32) ∙ sym (next_high 8 5 n))
-    refl)
+    let tl = c.args.p.tl in
+    let n = pair13 tl c.args.p.th in
+    simp c.of13-n.ensures
+    (count_eq (put_below 3 5 tl (n + 1) (omega arith) ∙ ap (λ (m : ℕ). tl / 32 * 32 + m) (sym (next_low 8 5 n)))
+    (low8 ((n + 1) / 32) ∙ sym (next_high 8 5 n)) refl)

@@ -8,9 +8,10 @@ use Rattle.flags.proofs.any_rises.Goals as goal
 
 pub returns : goal.returns
 returns c =
-    let a = c.args in
-    let tcon : a.tcon0 ≤ 255 = omega (arith, c.ranges.tcon0.fits) in
-    let scon : a.scon0 ≤ 255 = omega (arith, c.ranges.scon0.fits) in
-    let t2con : a.t2con0 ≤ 255 = omega (arith, c.ranges.t2con0.fits) in
-    (λ i. (tcon_rises a.tcon0 a.tcon1 tcon i || scon_rises a.scon0 a.scon1 scon i) || t2con_rises a.t2con0 a.t2con1 t2con i)
-    ∙ flags_rise a.tcon0 a.scon0 a.t2con0 a.tcon1 a.scon1 a.t2con1
+    let b = c.args.before in
+    let a = c.args.after in
+    let tcon : b.tcon ≤ 255 = omega arith in
+    let scon : b.scon ≤ 255 = omega arith in
+    let t2con : b.t2con ≤ 255 = omega arith in
+    (λ i. (tcon_rises b.tcon a.tcon tcon i || scon_rises b.scon a.scon scon i) || t2con_rises b.t2con a.t2con t2con i)
+    ∙ flags_rise b.tcon b.scon b.t2con a.tcon a.scon a.t2con

@@ -4,4 +4,4 @@ use Rattle.flags.proofs.times_after.Goals as goal
 
 pub returns : goal.returns
 unfolding times_after
-returns c = simp (c.noted_number.ensures, c.noted_ever.ensures, c.risen-r.ensures)
+returns c = simp (c.noted-2.ensures, c.noted.ensures, c.risen-r.ensures)

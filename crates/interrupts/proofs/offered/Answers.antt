@@ -1,13 +1,10 @@
--- `offered` is the number of the source offered: the test of power-down, and then the choice.
-use mathlib.Core.Path.{sym, ◌∙◌}
+-- `offered` out of power-down is the choice, whatever is seen.
 use Rattle.machine.specs.Interrupts.{offered}
+use Rattle.std.proofs.Common.{arith}
 use Rattle.interrupts.proofs.offered.Goals as goal
 
-pub returns-then-powered_down : goal.returns-then-powered_down
+pub returns-clause-source : goal.returns-clause-source
 unfolding offered
-returns-then-powered_down c = rw (sym c.powered_down.ensures ∙ c.if-powered_down.true)
-
-pub returns : goal.returns
-unfolding offered
-returns c =
-    rw (sym c.powered_down.ensures ∙ c.if-powered_down.false) (c.choice.ensures c.args.i.seen)
+returns-clause-source c =
+    let e = c.choice.ensures.source c.args.i.seen in
+    grind arith

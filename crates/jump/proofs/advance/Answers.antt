@@ -28,7 +28,7 @@ added-requires c =
     let r = c.rounds_to_idle-gone in
     let g = r.ensures.0 in
     let laps = idle_laps _ r.result.run.device g.ready refl (idles_on r.ensures.1 c.if-gone-eq0.false) r.result.left in
-    rest_fits g (laps ∙ sym c.idle_totals.ensures) c.requires.1
+    rest_fits g (laps ∙ sym c.idle_totals-laps.ensures) c.requires.1
 
 pub overflow_add-result : goal.overflow_add-result
 overflow_add-result c =
@@ -47,6 +47,6 @@ returns c =
     let n = r.result.left in
     let idled = c.idle-idled.ensures in (
       rest_counts g (idle_rounds_lem _ d g.ready refl p n ∙ sym idled.0),
-      c.added.ensures ∙ rest_sums g (idle_laps _ d g.ready refl p n ∙ sym c.idle_totals.ensures),
+      c.added.ensures ∙ rest_sums g (idle_laps _ d g.ready refl p n ∙ sym c.idle_totals-laps.ensures),
       idle_on _ d g.ready refl p n idled.1 g.ends,
     )

@@ -18,5 +18,5 @@ returns-else-room-eq0 c =
     let d = a.run.device in
     let y = c.requires.0 in
     let q = room_is a.pins d y c.requires.3 in
-    round_quiet a.pins a.left d a.run.totals y.good (omega arith) (omega (arith, c.least-used.ensures))
+    round_quiet a.pins a.left d a.run.totals y.good (omega arith) (omega (arith, c.min-used.ensures))
     (stride_is a.pins d y _ c.stride.ensures)

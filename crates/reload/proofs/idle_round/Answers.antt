@@ -7,19 +7,16 @@ use Rattle.reload.proofs.idle_round.Goals as goal
 pub returns-then-room-eq0 : goal.returns-then-room-eq0
 returns-then-room-eq0 c =
     let x = c.args.x in
-    (round_over c.args.k (unwound x) c.args.left (omega (arith, c.if-room-eq0.true)) c.requires.0 c.reloaded.ensures.0, c.reloaded.ensures.1)
+    round_over c.args.k (unwound x) c.args.left (omega (arith, c.if-room-eq0.true)) c.requires.0 c.reloaded.ensures
 
 pub returns-else-room-eq0 : goal.returns-else-room-eq0
 unfolding raised
 returns-else-room-eq0 c =
     let x = c.args.x in
-    let ok = c.requires.2 in
-    let room = ok.room in
+    let room = x.room_fits in
     let some = c.if-room-eq0.false in
-    let used = c.least-used.ensures in
+    let used = c.min-used.ensures in
     let whole : 255 - (255 - x.room) ≡ x.room = omega arith in
-    let up : 255 - (x.room - c.least-used.result) ≡ 255 - x.room + c.least-used.result = omega arith in (
-      round_up c.args.k (unwound x) c.args.left (ne_eqb (255 - x.room) 255 (λ z. omega arith)) (omega arith) c.requires.0 (used ∙ ap (λ (m : ℕ). min m c.args.left) (sym whole))
-          (λ i. record { tl1 = up i; th1 = 255 - x.full; half = x.half; counter = x.counter; sample = x.sample }),
-      record { room = omega arith; full = ok.full; half = ok.half },
-    )
+    let up : 255 - (x.room - c.min-used.result) ≡ 255 - x.room + c.min-used.result = omega arith in
+    round_up c.args.k (unwound x) c.args.left (ne_eqb (255 - x.room) 255 (λ z. omega arith)) (omega arith) c.requires.0 (used ∙ ap (λ (m : ℕ). min m c.args.left) (sym whole))
+    (λ i. record { tl1 = up i; th1 = 255 - x.full; half = x.half; counter = x.counter; sample = x.sample })

@@ -1,41 +1,15 @@
--- `over_of` is its definition: what is over less the first firstParts from i on is the slice less all of them.
-use native.Mathlib.Nat.{min-le_right}
-use mathlib.Core.Path.{refl, sym, ◌∙◌}
-use Rattle.shares.proofs.Rounds.{over_on, over_out}
-use borrow.Author.Rules.{rules}
+-- `over_of` is its definition: what is over after some wishes is the slice less their first parts.
+use Rattle.std.proofs.Common.{◌-◌, ◌≡◌, rules}
+use Rattle.std.proofs.lemmas.Fn.{fold_over}
+use Rattle.std.proofs.lemmas.Iterator.{YieldsList-from_slice}
+use Rattle.std.proofs.iter.Yields.{fronts}
+use Rattle.slices.specs.Shares.{total, first_parts}
+use Rattle.shares.proofs.Rounds.{over_none, over_more}
 use Rattle.shares.proofs.over_of.Goals as goal
-
-pub loop-i-init : goal.loop-i-init
-loop-i-init c = (search rules, refl)
-
-pub offset_bounds-wishes-i : goal.offset_bounds-wishes-i
-offset_bounds-wishes-i c = search rules
-
-pub bounds-wishes-i : goal.bounds-wishes-i
-bounds-wishes-i c = search rules
-
-pub least-requires : goal.least-requires
-least-requires c = search rules
-
-pub least-over-requires : goal.least-over-requires
-least-over-requires c = search rules
-
-pub overflow_sub-over : goal.overflow_sub-over
-overflow_sub-over c = rw c.least-over.ensures (min-le_right _ _)
-
-pub overflow_add-i : goal.overflow_add-i
-overflow_add-i c = search rules
-
-pub loop-i-smaller : goal.loop-i-smaller
-loop-i-smaller c = search rules
-
-pub loop-i-preserved : goal.loop-i-preserved
-loop-i-preserved c =
-    let a = c.args in
-    let on = over_on a.wishes.now c.loop-i.i a.part c.loop-i.over c.loop-i-test.true in
-    (search rules, rw (c.least-over.ensures, c.least.ensures) (sym on ∙ c.loop-i.invariant.1))
 
 pub returns : goal.returns
 returns c =
     let a = c.args in
-    sym (over_out a.wishes.now c.loop-i.i a.part c.loop-i.over c.loop-i-test.false) ∙ c.loop-i.invariant.1
+    fold_over fronts (λ y. y.now) _ (λ ws left. left ≡ a.b - total (first_parts a.part ws)) _
+    (λ ws left w more q j k. (over_more a.b a.part w.now left more ws j (search rules), search rules))
+    _ a.wishes.now a.b c.fold.result (YieldsList-from_slice a.wishes.now cc).runs (over_none a.b a.part) c.fold.ensures.ran

@@ -1,35 +1,18 @@
--- `wishes_ok` is its definition: what it makes of the wishes from i on is what it makes of all.
-use mathlib.Core.Path.{refl, sym, ◌∙◌}
-use borrow.Author.Tests.{le-leb, lt-leb}
-use Rattle.shares.proofs.Rounds.{wishes_on, wishes_out}
-use borrow.Author.Rules.{rules}
+-- `wishes_ok` is its definition, which recurses as `all` does.
+use Rattle.std.proofs.Common.{ℕ, ◌≡◌, refl, ◌∙◌, Bool, ◌&&◌, leb, rules, tests}
+use Rattle.std.specs.List.{list_all}
+use Rattle.std.proofs.lemmas.Iterator.{YieldsList-from_slice}
+use Rattle.std.proofs.lemmas.Iterator.Search.{all_from_yields_List}
+use Rattle.std.proofs.lemmas.List.Recursion.{same_from_clauses}
+use Rattle.machine.specs.Calls.{longest}
+use Rattle.slices.specs.Shares.{wishes_ok}
 use Rattle.shares.proofs.wishes_ok.Goals as goal
 
-pub loop-i-init : goal.loop-i-init
-loop-i-init c = (search rules, refl)
-
-pub offset_bounds-wishes-i : goal.offset_bounds-wishes-i
-offset_bounds-wishes-i c = search rules
-
-pub bounds-wishes-i : goal.bounds-wishes-i
-bounds-wishes-i c = search rules
-
-pub returns-then-wishes-i-gt-LONGEST : goal.returns-then-wishes-i-gt-LONGEST
-returns-then-wishes-i-gt-LONGEST c =
-    let ws = c.args.wishes.now in
-    sym (sym c.loop-i.invariant.1 ∙ wishes_on ws c.loop-i.i c.loop-i-test.true ∙ simp (lt-leb _ _ c.if-wishes-i-gt-LONGEST.true))
-
-pub overflow_add-i : goal.overflow_add-i
-overflow_add-i c = search rules
-
-pub loop-i-smaller : goal.loop-i-smaller
-loop-i-smaller c = search rules
-
-pub loop-i-preserved : goal.loop-i-preserved
-loop-i-preserved c =
-    let ws = c.args.wishes.now in
-    let on = simp (le-leb _ _ c.if-wishes-i-gt-LONGEST.false) at (wishes_on ws c.loop-i.i c.loop-i-test.true) in
-    (search rules, sym on ∙ c.loop-i.invariant.1)
-
 pub returns : goal.returns
-returns c = sym (wishes_out c.args.wishes.now c.loop-i.i c.loop-i-test.false) ∙ c.loop-i.invariant.1
+unfolding wishes_ok
+returns c =
+    let ws = c.args.wishes.now in
+    let short = λ (w : ℕ). leb w longest in
+    let all : c.all.result ≡ list_all short ws =
+    all_from_yields_List short _ _ _ c.all.ensures.ran (YieldsList-from_slice ws cc) (λ x b q k. search (rules, tests)) in
+    all ∙ same_from_clauses (list_all short) wishes_ok (λ (w : ℕ) (ok : Bool). leb w longest && ok) refl (λ _ _. refl) (λ _ _. refl) ws

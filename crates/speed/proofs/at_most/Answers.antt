@@ -1,7 +1,5 @@
 -- `at_most` is its definition: both products fit.
-use native.Mathlib.Omega.{arith}
-use mathlib.Core.Path.{refl}
-use Rattle.baud.specs.Speed.{at_most}
+use Rattle.std.proofs.Common.{arith}
 use Rattle.speed.proofs.Fractions.{product_fits}
 use Rattle.speed.proofs.at_most.Goals as goal
 
@@ -10,7 +8,3 @@ overflow_mul-result c = let s = c.requires in record { fits = omega (arith, prod
 
 pub overflow_mul-result-2 : goal.overflow_mul-result-2
 overflow_mul-result-2 c = let s = c.requires in record { fits = omega (arith, product_fits _ _ s.1 s.0) }
-
-pub returns : goal.returns
-unfolding at_most
-returns c = refl

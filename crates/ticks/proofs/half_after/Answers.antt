@@ -7,5 +7,6 @@ use Rattle.ticks.proofs.half_after.Goals as goal
 pub returns : goal.returns
 unfolding half_after
 returns c =
-    let e : c.wrapping_add_u8.result % 2 ≡ (c.args.half + c.args.overflow1) % 2 = omega (arith, c.wrapping_add_u8.ensures) in
+    let sum = c.args.half + c.args.overflow1 in
+    let e : sum % 256 % 2 ≡ sum % 2 = omega arith in
     simp (c.picked.ensures, low1, e)

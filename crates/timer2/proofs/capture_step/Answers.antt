@@ -1,4 +1,4 @@
--- `capture_step` is the definition, by the contracts of what it calls; T2EX sets EXF2 by a mask.
+-- `capture_step` is the definition where it heeds T2EX too: EXF2 is set by a mask.
 use Rattle.std.proofs.Common.{sym, ◌∙◌}
 use Rattle.machine.specs.Registers.{EXF2}
 use Rattle.machine.specs.Timer2.{capture_step}
@@ -9,9 +9,4 @@ pub returns-then-heeds_t2ex : goal.returns-then-heeds_t2ex
 unfolding capture_step
 returns-then-heeds_t2ex c =
     simp (c.copied2-u.ensures, or_bit c.flagged.result EXF2)
-    (simp (sym c.heeds_t2ex.ensures ∙ c.if-heeds_t2ex.true, c.flagged.ensures, c.with_count2-u.ensures, c.counted2-s.ensures, c.picked16-reload.ensures, c.pair16.ensures, c.captures-2.ensures))
-
-pub returns-else-heeds_t2ex : goal.returns-else-heeds_t2ex
-unfolding capture_step
-returns-else-heeds_t2ex c =
-    simp (sym c.heeds_t2ex.ensures ∙ c.if-heeds_t2ex.false, c.flagged.ensures, c.with_count2-u.ensures, c.counted2-s.ensures, c.picked16-reload.ensures, c.pair16.ensures, c.captures-2.ensures)
+    (simp (sym c.heeds_t2ex.ensures ∙ c.if-heeds_t2ex.true, c.flagged.ensures, c.with_count2-u.ensures, c.counted2-s.ensures, c.picked-reload.ensures, c.rcap2.ensures, c.captures-2.ensures))

@@ -1,7 +1,7 @@
 -- `count_times` is n counts in turn: what is left, counted from the number that it was last added to, ends where n
 -- counts from the start end. The sum wraps where the counts left reach past FFFF, and is then what is left past the
 -- overflow.
-use Rattle.std.proofs.Common.{◌≡◌, ℕ, ◌+◌, ◌-◌, ◌%◌, ◌<◌, ◌≤◌, sym, ap, ◌∙◌, arith}
+use Rattle.std.proofs.Common.{◌≡◌, ℕ, ◌+◌, ◌-◌, ◌%◌, ◌<◌, ◌≤◌, refl, sym, ap, ◌∙◌, arith}
 use Rattle.machine.specs.Timer2.{count_times}
 use Rattle.laws.specs.Counting.{lap_from}
 use Rattle.timer2.proofs.Laws.{at, count_times_on, count_times_over}
@@ -15,8 +15,7 @@ unadded a left count h l e = omega arith
 pub loop-count-init : goal.loop-count-init
 loop-count-init c =
     let a = c.args in
-    let e = c.wrapping_add_u16-count.ensures.value in
-    (ap (λ (k : ℕ). count_times a.n a.reload (at k 0)) (unadded a.from a.n _ (omega arith) (omega arith) e), omega arith, omega arith)
+    (ap (λ (k : ℕ). count_times a.n a.reload (at k 0)) (unadded a.from a.n _ (omega arith) (omega arith) refl), omega arith, omega arith)
 
 pub overflow_add-overflows : goal.overflow_add-overflows
 overflow_add-overflows c = omega arith
@@ -42,7 +41,7 @@ pub loop-count-preserved : goal.loop-count-preserved
 loop-count-preserved c =
     let b = c.loop-count in
     let r = c.args.reload in
-    let from = unadded r b.count _ (omega arith) (omega arith) c.wrapping_add_u16-count-in-loop-count.ensures.value in (
+    let from = unadded r b.count _ (omega arith) (omega arith) refl in (
       ap (λ (k : ℕ). count_times b.count r (at k (b.overflows + 1))) from
           ∙ sym (wrapped b.left b.count r b.overflows (omega arith) (omega arith)) ∙ b.invariant.0,
       omega arith,

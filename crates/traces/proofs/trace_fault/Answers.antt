@@ -1,32 +1,32 @@
--- The entries from i on have the same first bad entry as all, since those before are good.
-use mathlib.Core.Path.{refl, sym, ◌∙◌}
-use borrow.Author.Tests.{le-leb, lt-leb}
+-- The entries from one on have the same first bad entry as all, since those before are good.
+use Rattle.std.proofs.Common.{sym, ap, ◌∙◌, rules}
+use Rattle.std.proofs.lemmas.Result.{err_from_is_err_and}
+use borrow.Author.Tests.{le-leb}
 use Rattle.machine.specs.Calls.{trace_fault}
+use Rattle.machine.specs.Outcomes.{code_of}
+use Rattle.machine.proofs.Outcomes.{number_some}
 use Rattle.traces.proofs.Traces.{bad_end, bad_here, bad_on}
-use borrow.Author.Rules.{rules}
 use Rattle.traces.proofs.trace_fault.Goals as goal
 
-pub returns-then-entries-gt-MOST_ENTRIES : goal.returns-then-entries-gt-MOST_ENTRIES
+pub returns-in_err-entry_fault : goal.returns-in_err-entry_fault
 unfolding trace_fault
-returns-then-entries-gt-MOST_ENTRIES c = simp (lt-leb _ _ c.if-entries-gt-MOST_ENTRIES.true)
+returns-in_err-entry_fault c =
+    let es = c.args.entries.now in
+    let l = c.loop-e in
+    let r = err_from_is_err_and c.from_residual.result c.from_residual.ensures.1 in
+    let bad = c.in_err-entry_fault.ensures in
+    let here = bad_here es l.e-index c.loop-e-test.true (λ e. number_some c.in_err-entry_fault.field-0.0 (bad ∙ e)) in
+    rw (r.1, r.2) (simp (le-leb _ _ l.invariant.1) (bad ∙ sym here ∙ l.invariant.2))
 
-pub loop-i-init : goal.loop-i-init
-loop-i-init c = (search rules, search rules, refl)
-
-pub returns-then-bad-ne-PASSED : goal.returns-then-bad-ne-PASSED
-unfolding trace_fault
-returns-then-bad-ne-PASSED c = let es = c.args.entries.now in
-    let i = c.loop-i in
-    simp (le-leb _ _ i.invariant.1) (c.entry_fault-bad.ensures ∙ (sym (bad_here es i.i (search rules) (λ e. c.if-bad-ne-PASSED.true (c.entry_fault-bad.ensures ∙ e))) ∙ i.invariant.2))
-
-pub loop-i-preserved : goal.loop-i-preserved
-loop-i-preserved c = let es = c.args.entries.now in
-    let i = c.loop-i in
-    (search rules, search rules, sym (bad_on es i.i (search rules) (sym c.entry_fault-bad.ensures ∙ c.if-bad-ne-PASSED.false)) ∙ i.invariant.2)
+pub loop-e-preserved : goal.loop-e-preserved
+loop-e-preserved c =
+    let es = c.args.entries.now in
+    let l = c.loop-e in
+    (search rules, search rules, sym (bad_on es l.e-index c.loop-e-test.true (sym c.entry_fault.ensures ∙ ap code_of c.in_ok-entry_fault.was)) ∙ l.invariant.2)
 
 pub returns : goal.returns
 unfolding trace_fault
 returns c =
     let es = c.args.entries.now in
-    let i = c.loop-i in
-    simp (le-leb _ _ i.invariant.1) (sym (bad_end es i.i (search rules)) ∙ i.invariant.2)
+    let l = c.loop-e in
+    simp (le-leb _ _ l.invariant.1) (sym (bad_end es l.e-index c.loop-e-test.false) ∙ l.invariant.2)

@@ -1,5 +1,0 @@
--- `refuse_jump` is its definition: the totals are none.
-use Rattle.board.proofs.refuse_jump.Goals as goal
-
-pub returns : goal.returns
-returns c = simp c.none.ensures
