@@ -7,6 +7,7 @@ ghost use Rattle.looked.specs.Looked.{looked_answer};
 
 use looked::LookedAnswer;
 use machine::Device;
+use machine::refusals::Refusal;
 
 // The first of n cycles with one pin byte in which a flag rises, or none: 1, 4, 5.
 #[unsafe(no_mangle)]
@@ -14,5 +15,5 @@ use machine::Device;
 pub extern "C" fn c51_look(d: Device, pins: u8, n: u64) -> LookedAnswer
     ensures { result ≡ looked_answer d pins n }
 {
-    looked::looked(c51_run::look(d, pins, n))
+    looked::looked(c51_run::look(d, pins, n).map_err(Refusal::number))
 }

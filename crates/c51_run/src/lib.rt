@@ -56,12 +56,13 @@ fn judged(d: Device, pins: u8, n: u64) -> Result<(), Refusal>
 pub fn jump(d: &mut Device, pins: u8, n: u64) -> Result<Jumped, Refusal>
     ensures { jump_answered result d.new ≡ Machine.jump_answer d.old pins n }
 {
-    judged(*d, pins, n)?;
+    let device = *d;
+    judged(device, pins, n)?;
     let from = Run {
         totals: totals::none(),
-        device: *d,
+        device,
     };
-    let r = jump::advance(from, cycle::pins_of(d.kind, pins), n);
+    let r = jump::advance(from, cycle::pins_of(device.kind, pins), n);
     *d = r.run.device;
     Ok(Jumped {
         totals: r.run.totals,

@@ -7,6 +7,7 @@ ghost use Rattle.looked.specs.Looked.{woken_answer};
 
 use looked::LookedAnswer;
 use machine::Device;
+use machine::refusals::Refusal;
 
 // The first k from 0 to n cycles with one pin byte after which an interrupt is offered, or none: 1, 4, 5.
 #[unsafe(no_mangle)]
@@ -14,5 +15,5 @@ use machine::Device;
 pub extern "C" fn c51_wake(d: Device, pins: u8, n: u64) -> LookedAnswer
     ensures { result ≡ woken_answer d pins n }
 {
-    looked::looked(c51_run::wake(d, pins, n))
+    looked::looked(c51_run::wake(d, pins, n).map_err(Refusal::number))
 }

@@ -1,9 +1,11 @@
 -- Counting down for any largest count: one count down is a sum modulo the number of counts, and so are n of them. When the output turns.
 use mathlib.Core.Path.{◌≡◌, refl, sym, ap, ◌∙◌}
 use mathlib.Core.Bool.{cond, ◌&&◌, not}
-use Prim.Native.Nat.{ℕ, zero, suc, ◌+◌, ◌*◌, ◌%◌, ◌≤◌}
-use native.Mathlib.Nat.{mod-eq_of_lt, mod-add-mod, add-mod_right, suc-mul, add-mod-mod}
+use Prim.Native.Nat.{ℕ, zero, suc, ◌+◌, ◌-◌, ◌*◌, ◌%◌, ◌≤◌}
+use native.Mathlib.Nat.{mod-eq_of_lt, mod-add-mod, add-mod_right, suc-mul, mul-suc, add-mod-mod, mod-lt}
+use Rattle.std.proofs.Math.Nat.{add-mul-mod_self_right}
 use Rattle.std.proofs.lemmas.Nat.{mul-mod_first}
+use native.Mathlib.Numerals.{add-one}
 use native.Mathlib.Omega.{arith}
 use lib.Dec.{eqb, ltb}
 use borrow.Author.Tests.{eq-eqb, ne_eqb, lt-ltb, le-ltb, ltb-true, ltb-false, eqb-true, eqb-false}
@@ -49,6 +51,28 @@ pub down_rest : (top n c : ℕ) → (c + n % (top + 1) * top) % (top + 1) ≡ (c
 down_rest top n c =
     let m = top + 1 in
     sym (add-mod-mod c (n % m * top) m) ∙ ap (λ (k : ℕ). (c + k) % m) (mul-mod_first n top m) ∙ add-mod-mod c (n * top) m
+
+-- and so what is left over is taken off
+left_over : (top r c : ℕ) → r ≤ c → (c - r) % (top + 1) ≡ (c + r * top) % (top + 1)
+left_over top r c h =
+    sym (add-mul-mod_self_right (c - r) r (top + 1)) ∙ ap (λ (m : ℕ). m % (top + 1)) (sums (r * (top + 1)) (r * top) (ap (λ (m : ℕ). r * m) (add-one top) ∙ mul-suc r top))
+  where
+    sums : (a b : ℕ) → a ≡ b + r → c - r + a ≡ c + b
+    sums a b e = omega arith
+
+pub down_within : (top n c : ℕ) → n % (top + 1) ≤ c → (c - n % (top + 1)) % (top + 1) ≡ down_by top n c
+unfolding down_by
+down_within top n c h = left_over top (n % (top + 1)) c h ∙ down_rest top n c
+
+-- after a lap more, where the count is not as great
+pub down_over : (top n c : ℕ) → (c + (top + 1) - n % (top + 1)) % (top + 1) ≡ down_by top n c
+unfolding down_by
+down_over top n c =
+    left_over top (n % (top + 1)) (c + (top + 1)) (omega (arith, mod-lt n {m = top + 1} (omega arith)))
+    ∙ (ap (λ (k : ℕ). k % (top + 1)) (swapped (n % (top + 1) * top)) ∙ (add-mod_right (c + n % (top + 1) * top) (top + 1) ∙ down_rest top n c))
+  where
+    swapped : (a : ℕ) → c + (top + 1) + a ≡ c + a + (top + 1)
+    swapped a = omega arith
 
 -- The output's turns
 

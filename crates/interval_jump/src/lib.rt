@@ -10,13 +10,21 @@ use interval::Counter;
 use interval_counter::{again, counts0, load, most, one_below, stands};
 use laws::picked;
 
-// n counts down from c, the largest count being top. Whole laps of top + 1 counts change nothing.
-#[tactic(auto, using(crate::proofs::Down::down_rest), unfolding(crate::specs::Jump::down_by))]
+// n counts down from c, the largest count being top. Whole laps of top + 1 counts change nothing. The last remainder is taken only of a
+// record that is not accepted, whose count is above the largest: a division costs more than all the rest.
 fn down_by(top: u16, n: u64, c: u16) -> u16
     ensures { result ≡ Closed.down_by top n c }
 {
-    let t = u64::from(top);
-    ((u64::from(c) + n % (t + 1) * t) % (t + 1)) as u16
+    let lap = u64::from(top) + 1;
+    let gone = n % lap;
+    let from = u64::from(c);
+    let left = if gone <= from {
+        from - gone
+    } else {
+        from + lap - gone
+    };
+    let below = if left < lap { left } else { left % lap };
+    below as u16
 }
 
 // The counts that bring it to 1; one more brings it to 0 in mode 0, and to its reload in mode 2.

@@ -4,3 +4,4 @@ pub mod Idles
 pub mod Rounds
 pub mod Busy
 pub mod Reached
+pub mod Down

@@ -89,6 +89,13 @@ pub fn advance(from: Run, pins: u8, n: u64) -> Advanced
     requires { Ready pins from.device × (n ≤ longest) × Within longest from.totals }
     ensures { (result.rounds ≡ rounds n pins from.device) × (result.run.totals ≡ added from.totals (totals n pins from.device)) × (result.run.device ≡ cycles n pins from.device) }
 {
+    // In power-down nothing happens, in one round.
+    if laws::powered_down(from.device.pcon) {
+        return Advanced {
+            rounds: u64::from(n != 0),
+            run: from,
+        };
+    }
     let gone = rounds_to_idle(from, pins, n);
     let run = gone.run;
     if gone.left == 0 {

@@ -2,10 +2,7 @@
 #![tactic(auto)]
 
 ghost use Rattle.std.specs.Prelude.{◌≡◌};
-ghost use Rattle.machine.specs.Outcomes.{look_answered};
-ghost use Rattle.looked.specs.Looked.{looked_of};
-
-use machine::refusals::Refusal;
+ghost use Rattle.looked.specs.Looked.{look_numbered, looked_of};
 
 // A look's code, 1 where it finds what it looks for, and the cycle in which a flag first rises, or after which an interrupt is first
 // offered. C has no Result: 0 or the number, and zeros.
@@ -17,13 +14,13 @@ pub struct LookedAnswer {
     pub at: u64,
 }
 
-// What a look gives, for C: a refused one its number and zeros.
-pub fn looked(a: Result<Option<u64>, Refusal>) -> LookedAnswer
-    ensures { result ≡ looked_of (look_answered a) }
+// What a look gives, for C: a refused one its number, whatever it is, and zeros.
+pub fn looked(a: Result<Option<u64>, u8>) -> LookedAnswer
+    ensures { result ≡ looked_of (look_numbered a) }
 {
     match a {
-        Err(e) => LookedAnswer {
-            code: e.number(),
+        Err(code) => LookedAnswer {
+            code,
             found: 0,
             at: 0,
         },

@@ -14,7 +14,7 @@ use machine::Device;
 
 // The first of n cycles that a test of the device before it and after it finds, or none, by the rounds of a jump. From a device to itself
 // the test finds nothing.
-// Where Timer 1's reload is all that happens, and in a quiet run to the end, as in power-down, none is.
+// Where Timer 1's reload is all that happens, in a quiet run to the end, and in power-down, none is.
 fn first_found<F: Fn(&Device, &Device) -> bool>(
     d: Device,
     pins: u8,
@@ -28,6 +28,10 @@ fn first_found<F: Fn(&Device, &Device) -> bool>(
         → ((before after : _) (r : Bool) → F.post finds before after r → r ≡ test before.now after.now)
         → found result ≡ first_cycle test 0 n pins d }
 {
+    // In power-down nothing happens.
+    if laws::powered_down(d.pcon) {
+        return None;
+    }
     let mut at = d;
     let mut done = 0;
     // No index: a round passes as many cycles as it can.

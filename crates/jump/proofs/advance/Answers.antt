@@ -1,12 +1,27 @@
 -- The rounds up to where Timer 1's reload is all that happens, or to the end, and then the rest: by `Reached` and the laws of the reload.
-use mathlib.Core.Path.{◌≡◌, refl, sym, ◌∙◌}
+use mathlib.Core.Path.{◌≡◌, refl, sym, ap, ◌∙◌}
 use mathlib.Core.Logic.{◌⊎◌, inl, inr}
 use Prim.Native.Nat.{ℕ}
 use native.Mathlib.Omega.{arith}
+use Rattle.machine.specs.Totals.{added}
+use Rattle.laws.proofs.Sleep.{cycles_stay}
+use Rattle.totals.proofs.Sums.{added_none}
 use Rattle.record.proofs.Accepted.{ranges_of}
+use Rattle.jump.proofs.Down.{totals_down, rounds_down}
 use Rattle.jump.proofs.Idles.{idle_on, idle_laps, idle_rounds_lem}
 use Rattle.jump.proofs.Reached.{rest_sums, rest_fits, rest_counts, rest_few, reached_end, reached_sum, reached_count}
 use Rattle.jump.proofs.advance.Goals as goal
+
+-- in power-down
+pub returns-then-powered_down : goal.returns-then-powered_down
+returns-then-powered_down c =
+    let x = c.args in
+    let d = x.from.device in
+    let down = sym c.powered_down.ensures ∙ c.if-powered_down.true in (
+      c.from.ensures ∙ sym (rounds_down x.pins d down x.n),
+      sym (ap (added x.from.totals) (totals_down x.pins d down x.n) ∙ added_none x.from.totals),
+      sym (cycles_stay d down x.n x.pins),
+    )
 
 -- no cycle is left
 pub returns-then-gone-eq0 : goal.returns-then-gone-eq0

@@ -1,9 +1,17 @@
 -- Round by round: the first cycle that is found of those that are left is the first of all; one is found in a round of one cycle only.
-use Rattle.std.proofs.Common.{◌-◌, sym, ◌∙◌, arith}
+use Rattle.std.proofs.Common.{◌-◌, refl, sym, ◌∙◌, arith}
+use Rattle.strides.specs.Stride.{room_at}
 use Rattle.jump.proofs.Rounds.{round_used, round_ready}
 use Rattle.looks.proofs.Looks.{on_none}
 use Rattle.looks.proofs.Rounds.{quiet_look, idle_look, look_here, look_on}
 use Rattle.looks.proofs.first_found.Goals as goal
+
+pub returns-then-powered_down : goal.returns-then-powered_down
+unfolding room_at
+returns-then-powered_down g c test hears still says =
+    let x = c.args in
+    let down = sym c.powered_down.ensures ∙ c.if-powered_down.true in
+    quiet_look hears x.pins x.n x.d c.requires.ready still (rw down refl) c.requires.within 0 refl
 
 pub returns-then-idles : goal.returns-then-idles
 returns-then-idles g c test hears still says =
