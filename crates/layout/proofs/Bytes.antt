@@ -1,17 +1,15 @@
--- Numbers as bytes, low first, for any width: each way back is the other's inverse; the library's number of eight bytes; and how `put` goes
--- on by a byte.
+-- Numbers as bytes, low first, for any width: each way back is the other's inverse; and how the two loops go on by a byte.
 use Prim.Native.Nat.{ℕ, zero, suc, ◌+◌, ◌-◌, ◌*◌, ◌/◌, ◌%◌, ◌^◌, ◌<◌, ◌≤◌}
 use mathlib.Core.Path.{◌≡◌, refl, sym, ap, ap₂, ◌∙◌}
-use mathlib.Core.List.{List, [], ◌∷◌, ◌++◌, append_assoc}
-use native.Mathlib.Nat.{pow-succ', sub-zero}
+use mathlib.Core.List.{List, [], ◌∷◌, ◌++◌, reverse, append_assoc}
+use native.Mathlib.Nat.{pow-succ', pow-le-pow_right, sub-zero}
 use native.Mathlib.Omega.{arith}
-use lib.ListN.{length, take, drop, set, replicate, take-append-drop}
-use lib.Seq.{length-take-le}
+use lib.Dec.{lit<}
+use lib.ListN.{length, take, drop, set, take-append-drop}
+use Rattle.std.proofs.lemmas.List.{reverse-append, reverse-reverse, length_push}
 use Rattle.machine.specs.Checkpoint.{bytes_of, number_of}
-use Rattle.std.specs.Int.{w64, from_le_bytes}
-use borrow.Rule.Slice.PartMut.{put_mid, same_len_mid, mid_len, Post-is}
+use borrow.Rule.Slice.PartMut.{put_mid, mid_len, Post-is}
 use Rattle.laws.specs.Rows.{put}
-use Rattle.laws.proofs.Arrays.{whole}
 use Rattle.laws.proofs.Rows.{put_take, put_drop, put_all}
 use Rattle.layout.specs.Bytes.{Bytes}
 
@@ -43,29 +41,39 @@ unfolding Bytes
 bytes_parts [] ys h = (tt, h)
 bytes_parts (x ∷ xs) ys h = let r = bytes_parts xs ys h.1 in ((h.0, r.0), r.1)
 
--- `number`: eight bytes, where zeros stand past those that were read
+-- `number`, from the last byte down: what is summed of the bytes that were read, the last of them first
+pub record Summed (read : List ℕ) (n : ℕ) : Type 0 where
+  pub sum : n ≡ number_of (reverse read)
+  pub below : n < 256 ^ length read
 
--- zeros past the bytes change nothing
-zeros_past : (bytes : List ℕ) (k n : ℕ) → number_of (bytes ++ drop k (replicate n 0)) ≡ number_of bytes
+pub sum_none : Summed [] 0
 unfolding number_of
-zeros_past (b ∷ bytes) k n = ap (λ (m : ℕ). b + 256 * m) (zeros_past bytes k n)
-zeros_past [] zero zero = refl
-zeros_past [] (suc k) zero = refl
-zeros_past [] zero (suc n) = let e = zeros_past [] zero n in omega arith
-zeros_past [] (suc k) (suc n) = zeros_past [] k n
+sum_none = record { sum = refl; below = lit< tt }
 
--- the library's number of eight bytes
-eight : (bytes : List ℕ) → length bytes ≡ 8 → from_le_bytes w64 bytes ≡ number_of bytes
-unfolding number_of
-eight bytes h =
-    let e = whole 0 8 bytes h in
-    rw (sym e) (omega arith)
+module _ (read : List ℕ) (n : ℕ) (s : Summed read n) where
+  -- one byte more has room in eight
+  room : (b : ℕ) → b < 256 → n * 256 + b < 256 ^ suc (length read)
+  room b lb = let p = pow-succ' 256 (length read) in let u = s.below in omega arith
 
-pub read_so : (bytes : List ℕ) (width : ℕ) → length bytes ≡ width → width ≤ 8
-    → from_le_bytes w64 (put_mid 0 width (replicate 8 0) bytes) ≡ number_of bytes
-read_so bytes width h w =
-    eight _ (same_len_mid 0 width (replicate 8 0) bytes (h ∙ sym (length-take-le width (replicate 8 0) w)))
-    ∙ zeros_past bytes width 8
+  pub fits : length read < 8 → (b : ℕ) → b < 256 → n * 256 + b < 2 ^ 64
+  fits l b lb =
+      let u = room b lb in
+      let p = pow-le-pow_right {n = 256} (lit< tt) {i = suc (length read)} {j = 8} (omega arith) in
+      omega arith
+
+  pub sum_on : (b : ℕ) → b < 256 → Summed (read ++ b ∷ []) (n * 256 + b)
+  unfolding number_of
+  sum_on b lb =
+      let e = s.sum in
+      let l : length (read ++ b ∷ []) ≡ suc (length read) = length_push read b ∙ omega arith in
+      record {
+        sum = omega (arith, ap number_of (reverse-append read (b ∷ [])));
+        below = rw l (room b lb);
+      }
+
+-- all were read
+pub sum_all : (bytes read : List ℕ) (n : ℕ) → Summed read n → read ≡ reverse bytes → n ≡ number_of bytes
+sum_all bytes read n s e = s.sum ∙ ap number_of (ap reverse e ∙ reverse-reverse bytes)
 
 -- `put`, byte by byte: what is still to write comes to the number's bytes
 pub record Putting (n : ℕ) (before now : List ℕ) (i left : ℕ) : Type 0 where

@@ -116,9 +116,11 @@ pub fn number(bytes: &[u8]) -> u64
     requires { length bytes.now ≤ 8 }
     ensures { result ≡ number_of bytes.now }
 {
-    let mut padded = [0; 8];
-    padded[..bytes.len()].copy_from_slice(bytes);
-    u64::from_le_bytes(padded)
+    let mut n = 0;
+    for byte in bytes.iter().rev() {
+        n = n * 256 + u64::from(*byte);
+    }
+    n
 }
 
 // A number as so many bytes, low first.
